@@ -1,0 +1,25 @@
+use mathlib.Core.Path.{refl}
+use Rattle.geometry.specs.Refusals.{badNumber, mostNumber}
+use borrow.Author.Needs.{needs}
+use Rattle.geometry.proofs.check.bad_number.Statement.{statement}
+use Rattle.geometry.proofs.check.bad_number.Tie as tie
+use Rattle.geometry.proofs.check.bad_number.Reads as reads
+use Rattle.geometry.proofs.check.bad_number.Lts as lts
+use Rattle.geometry.proofs.check.last.Reads as last-reads
+use Rattle.geometry.proofs.check.or.Reads as or-reads
+
+-- src/check.rt:34:16
+last-requires : tie.Need-last-requires
+last-requires c κs = search needs
+
+-- src/check.rt:34:5
+or-requires : tie.Need-or-requires
+or-requires c κs = search needs
+
+-- src/check.rt:31:1
+returns : tie.Need-returns
+unfolding badNumber mostNumber
+returns c = c .or .ensures _ _ refl (c .before .last .ensures _ refl)
+
+pub bad-number-spec : {M : Type 1} → statement M
+bad-number-spec = tie.close (tie.spec last-requires or-requires returns)

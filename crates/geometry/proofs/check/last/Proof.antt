@@ -1,0 +1,14 @@
+use mathlib.Core.Path.{_∙_, sym}
+use Rattle.geometry.proofs.Tests.{any-one}
+use borrow.Author.Needs.{needs}
+use Rattle.geometry.proofs.check.last.Statement.{statement}
+use Rattle.geometry.proofs.check.last.Tie as tie
+use Rattle.geometry.proofs.check.last.Reads as reads
+use Rattle.geometry.proofs.check.last.Lts as lts
+
+-- src/check.rt:25:1
+returns : tie.Need-returns
+returns c = λ x e. e ∙ sym (any-one x)
+
+pub last-spec : {M : Type 1} → statement M
+last-spec = tie.close (tie.spec returns)

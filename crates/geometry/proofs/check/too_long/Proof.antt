@@ -1,0 +1,15 @@
+use mathlib.Core.Path.{refl}
+use Rattle.geometry.specs.Refusals.{tooLong, mostLength}
+use borrow.Author.Needs.{needs}
+use Rattle.geometry.proofs.check.too_long.Statement.{statement}
+use Rattle.geometry.proofs.check.too_long.Tie as tie
+use Rattle.geometry.proofs.check.too_long.Reads as reads
+use Rattle.geometry.proofs.check.too_long.Lts as lts
+
+-- src/check.rt:37:1
+returns : tie.Need-returns
+unfolding tooLong mostLength
+returns c = refl
+
+pub too-long-spec : {M : Type 1} → statement M
+too-long-spec = tie.close (tie.spec returns)

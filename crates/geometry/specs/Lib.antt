@@ -1,0 +1,3 @@
+pub mod Geometry
+pub mod Refusals
+pub mod Admitted

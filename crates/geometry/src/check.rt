@@ -1,0 +1,115 @@
+// The rows of the table as tests. Each is one expression without a branch, so that a proof has one way to follow; what
+// divides is known to be positive, since row 1 is asked first.
+ghost use mathlib.Core.Path.{_≡_};
+ghost use mathlib.Core.Bool.{Bool};
+ghost use mathlib.Core.List.{List, [], _∷_};
+ghost use Prim.Native.Nat.{_<_, _≤_};
+ghost use Rattle.geometry.specs.Geometry.{pages};
+ghost use Rattle.geometry.specs.Admitted.{Numbers};
+ghost use Rattle.geometry.specs.Refusals.{any, badNumber, tooLong, uneven, outside, unevenPage, unevenAreas, badState, bootWords, bootNumbers, mostLength};
+use crate::Geometry;
+
+// The first test, or the list of tests that follow it.
+pub fn or(first: bool, rest: bool) -> bool
+    ensures { λ r. ⌜ ((x : Bool) (bs : List Bool) → first ≡ x → rest ≡ any bs → r ≡ any (x ∷ bs)) ⌝ }
+{
+    if first { true } else { rest }
+}
+
+// The last of a list of tests.
+pub fn last(test: bool) -> bool
+    ensures { λ r. ⌜ ((x : Bool) → test ≡ x → r ≡ any (x ∷ [])) ⌝ }
+{
+    test
+}
+
+pub fn bad_number(n: u32) -> bool
+    ensures { λ r. ⌜ r ≡ badNumber n ⌝ }
+{
+    or(n == 0, last(65536 < n))
+}
+
+pub fn too_long(n: usize) -> bool
+    ensures { λ r. ⌜ r ≡ tooLong n ⌝ }
+{
+    1048576 < n
+}
+
+// Whether n is no multiple of m.
+pub fn uneven(n: usize, m: usize) -> bool
+    requires { ⌜ 0 < m ⌝ }
+    ensures { λ r. ⌜ r ≡ uneven n m ⌝ }
+{
+    n % m != 0
+}
+
+// Row 1 of prepare_boot.
+pub fn boot_limits(g: Geometry, la: usize, ld: usize, ls: usize) -> bool
+    ensures { λ r. ⌜ r ≡ outside (bootNumbers g) (la ∷ ld ∷ ls ∷ []) ⌝ }
+{
+    let lengths = or(too_long(la), or(too_long(ld), last(too_long(ls))));
+    let state = or(
+        bad_number(g.es),
+        or(bad_number(g.ws), or(bad_number(g.b), lengths)),
+    );
+    let dfu = or(bad_number(g.ed), or(bad_number(g.wd), state));
+    or(bad_number(g.ea), or(bad_number(g.wa), dfu))
+}
+
+// Row 1 of the calls that read the state area alone.
+pub fn state_limits(es: u32, ws: u32, ls: usize) -> bool
+    ensures { λ r. ⌜ r ≡ outside (es ∷ ws ∷ []) (ls ∷ []) ⌝ }
+{
+    or(bad_number(es), or(bad_number(ws), last(too_long(ls))))
+}
+
+// Row 2 of prepare_boot.
+pub fn uneven_page(g: Geometry) -> bool
+    requires { ⌜ Numbers g ⌝ }
+    ensures { λ r. ⌜ r ≡ unevenPage g ⌝ }
+{
+    let p = g.page_size();
+    let b = g.b as usize;
+    let wa = g.wa as usize;
+    let wd = g.wd as usize;
+    let chunk = or(uneven(b, wa), or(uneven(b, wd), last(b < g.ws as usize)));
+    let writes = or(uneven(p, wa), or(uneven(p, wd), or(uneven(p, b), chunk)));
+    or(
+        uneven(p, g.ea as usize),
+        or(uneven(p, g.ed as usize), writes),
+    )
+}
+
+// Row 3 of prepare_boot.
+pub fn uneven_areas(g: Geometry, la: usize, ld: usize) -> bool
+    requires { ⌜ Numbers g × (la ≤ mostLength) ⌝ }
+    ensures { λ r. ⌜ r ≡ unevenAreas g la ld ⌝ }
+{
+    let p = g.page_size();
+    or(uneven(la, p), or(uneven(ld, p), last(ld < la + p)))
+}
+
+// Row 4: the state area has to hold `least` words.
+pub fn bad_state(least: usize, es: usize, ws: usize, ls: usize) -> bool
+    requires { ⌜ (0 < es) × (0 < ws) ⌝ }
+    ensures { λ r. ⌜ r ≡ badState least es ws ls ⌝ }
+{
+    or(uneven(es, ws), or(uneven(ls, es), last(ls / ws < least)))
+}
+
+// The words that a boot with n pages wants.
+pub fn boot_words(n: usize) -> usize
+    requires { ⌜ n ≤ mostLength ⌝ }
+    ensures { λ r. ⌜ r ≡ bootWords n ⌝ }
+{
+    if n == 0 { 3 } else { 4 * n + 2 }
+}
+
+// Row 4 of prepare_boot.
+pub fn bad_boot_state(g: Geometry, la: usize, ls: usize) -> bool
+    requires { ⌜ Numbers g × (la ≤ mostLength) ⌝ }
+    ensures { λ r. ⌜ r ≡ badState (bootWords (pages g la)) (g .es) (g .ws) ls ⌝ }
+{
+    let n = la / g.page_size();
+    bad_state(boot_words(n), g.es as usize, g.ws as usize, ls)
+}

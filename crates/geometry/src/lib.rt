@@ -1,0 +1,119 @@
+// The geometry of the three areas, and the refusals that stand for the Rust's assertions on it: the const block of
+// `prepare_boot` and `assert_partitions` of boot_loader.rs.
+ghost use mathlib.Core.Path.{_≡_};
+ghost use Rattle.geometry.specs.Geometry.{page};
+ghost use Rattle.geometry.specs.Refusals.{number, verdict, bootRefusal, stateRefusal};
+
+mod check;
+
+// The sizes in bytes. In the Rust they are constants of the flash types, and the chunk is the length of a buffer.
+pub struct Geometry {
+    // Active: erase size and write size.
+    pub ea: u32,
+    pub wa: u32,
+    // DFU.
+    pub ed: u32,
+    pub wd: u32,
+    // State.
+    pub es: u32,
+    pub ws: u32,
+    // The chunk in which a page is copied.
+    pub b: u32,
+}
+
+// The sizes that the firmware updater reads: those of DFU and of the state area.
+pub struct Sizes {
+    pub ed: u32,
+    pub wd: u32,
+    pub es: u32,
+    pub ws: u32,
+}
+
+// A page of an image, a word of the state area, a byte of an area: three kinds, so that none is passed for another.
+pub struct Page(pub usize);
+
+pub struct Word(pub usize);
+
+pub struct Offset(pub usize);
+
+// Why a call says no. `BadState` is the Rust's; the others are its assertions.
+pub enum Refusal {
+    // A number or a length is past its limit.
+    Limit,
+    // The sizes do not divide a page.
+    Page,
+    // The images are no whole number of pages, or DFU is too short.
+    Area,
+    // The state area is no whole number of units, or has too few words.
+    StateArea,
+    // A swap is pending.
+    BadState,
+    // The bytes asked for are not in the area, or not on its write units.
+    Range,
+}
+
+pub enum Verdict {
+    Admitted,
+    Refused(Refusal),
+}
+
+impl Refusal {
+    // The refusal's number in the table.
+    pub fn number(self) -> u32
+        ensures { λ r. ⌜ r ≡ number self ⌝ }
+    {
+        match self {
+            Refusal::Limit => 1,
+            Refusal::Page => 2,
+            Refusal::Area => 3,
+            Refusal::StateArea => 4,
+            Refusal::BadState => 5,
+            Refusal::Range => 6,
+        }
+    }
+}
+
+impl Geometry {
+    // The Rust's PAGE_SIZE: the unit in which images are copied.
+    pub fn page_size(self) -> usize
+        ensures { λ r. ⌜ r ≡ page self ⌝ }
+    {
+        if self.ea < self.ed {
+            self.ed as usize
+        } else {
+            self.ea as usize
+        }
+    }
+}
+
+// Whether prepare_boot takes this geometry with areas of these lengths.
+pub fn boot_verdict(g: Geometry, la: usize, ld: usize, ls: usize) -> Verdict
+    ensures { λ r. ⌜ verdict r ≡ bootRefusal g la ld ls ⌝ }
+{
+    if check::boot_limits(g, la, ld, ls) {
+        return Verdict::Refused(Refusal::Limit);
+    }
+    if check::uneven_page(g) {
+        return Verdict::Refused(Refusal::Page);
+    }
+    if check::uneven_areas(g, la, ld) {
+        return Verdict::Refused(Refusal::Area);
+    }
+    if check::bad_boot_state(g, la, ls) {
+        return Verdict::Refused(Refusal::StateArea);
+    }
+    Verdict::Admitted
+}
+
+// Whether a call that reads the state area alone takes these numbers and this length.
+pub fn state_verdict(es: u32, ws: u32, ls: usize) -> Verdict
+    ensures { λ r. ⌜ verdict r ≡ stateRefusal es ws ls ⌝ }
+{
+    if check::state_limits(es, ws, ls) {
+        return Verdict::Refused(Refusal::Limit);
+    }
+    if check::bad_state(2, es as usize, ws as usize, ls) {
+        return Verdict::Refused(Refusal::StateArea);
+    }
+    Verdict::Admitted
+}

@@ -1,0 +1,2 @@
+pub mod Flash
+pub mod Run

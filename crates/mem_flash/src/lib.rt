@@ -1,0 +1,98 @@
+// Flash in memory: mem_flash.rs, with a budget that erases count against too, and writes that let bits fall.
+// A range that runs past the end of an area changes the bytes that are there, so nothing is asked of the caller.
+ghost use mathlib.Core.Path.{_≡_};
+ghost use Prim.Native.Nat.{ℕ, _+_, _-_, _≤_, min};
+ghost use lib.ListN.{length, take, replicate};
+ghost use Rattle.mem_flash.specs.Flash.{erasedAt, writtenAt, eraseOps};
+ghost use Rattle.mem_flash.specs.Run.{InArea, writeOps};
+use geometry::Offset;
+use state::State;
+
+// The operations that may still be done.
+pub struct Budget(pub u32);
+
+// What an operation answers: go on with this budget, or the power is cut and nothing was changed.
+pub enum Flow {
+    On(Budget),
+    Cut,
+}
+
+fn least(a: usize, b: usize) -> usize
+    ensures { λ r. ⌜ r ≡ min a b ⌝ }
+{
+    if a < b { a } else { b }
+}
+
+fn fill(area: &mut [u8], from: usize, to: usize)
+    requires { ⌜ to ≤ length (now area) ⌝ }
+    ensures { λ _. ⌜ now (area .exit) ≡ erasedAt from (to - from) (now (area .entry)) ⌝ }
+{
+    let mut i = from;
+    while i < to {
+        area[i] = State::ERASE_VALUE;
+        i += 1;
+    }
+}
+
+fn program(area: &mut [u8], at: usize, bytes: &[u8], len: usize)
+    requires { ⌜ (at + len ≤ length (now area)) × (len ≤ length (now bytes)) ⌝ }
+    ensures { λ _. ⌜ now (area .exit) ≡ writtenAt at (take len (now (bytes .entry))) (now (area .entry)) ⌝ }
+{
+    let mut i = 0;
+    while i < len {
+        area[at + i] = area[at + i] & bytes[i];
+        i += 1;
+    }
+}
+
+fn program_word(area: &mut [u8], at: usize, value: u8, len: usize)
+    requires { ⌜ at + len ≤ length (now area) ⌝ }
+    ensures { λ _. ⌜ now (area .exit) ≡ writtenAt at (replicate len value) (now (area .entry)) ⌝ }
+{
+    let mut i = 0;
+    while i < len {
+        area[at + i] = area[at + i] & value;
+        i += 1;
+    }
+}
+
+// Erases the bytes from one offset up to another: one operation.
+pub fn erase(area: &mut [u8], from: Offset, to: Offset, left: Budget) -> Flow
+    ensures { λ r. ⌜ ((unit : ℕ) → InArea (left .0) (λ a. eraseOps unit a (from .0) (to .0 - from .0)) (now (area .entry)) (now (area .exit)) r) ⌝ }
+{
+    let k = left.0;
+    if k == 0 {
+        return Flow::Cut;
+    }
+    let end = least(to.0, area.len());
+    fill(area, from.0, end);
+    Flow::On(Budget(k - 1))
+}
+
+// Writes bytes at an offset: one operation.
+pub fn write(area: &mut [u8], offset: Offset, bytes: &[u8], left: Budget) -> Flow
+    ensures { λ r. ⌜ InArea (left .0) (writeOps (offset .0) (now (bytes .entry))) (now (area .entry)) (now (area .exit)) r ⌝ }
+{
+    let k = left.0;
+    if k == 0 {
+        return Flow::Cut;
+    }
+    let at = least(offset.0, area.len());
+    let len = least(bytes.len(), area.len() - at);
+    program(area, at, bytes, len);
+    Flow::On(Budget(k - 1))
+}
+
+// Writes one value over the `len` bytes of a word: one operation. The Rust fills a buffer for it.
+pub fn write_word(area: &mut [u8], offset: Offset, value: u8, len: usize, left: Budget) -> Flow
+    ensures { λ r. ⌜ InArea (left .0) (writeOps (offset .0) (replicate len value)) (now (area .entry)) (now (area .exit)) r ⌝ }
+{
+    let k = left.0;
+    if k == 0 {
+        return Flow::Cut;
+    }
+    let at = least(offset.0, area.len());
+    let room = least(len, area.len() - at);
+    program_word(area, at, value, room);
+    Flow::On(Budget(k - 1))
+}

@@ -1,0 +1,17 @@
+-- The starred cases a to l, proved by computation. Assumes nothing.
+use mathlib.Core.Path.{_≡_, refl}
+use Rattle.state.specs.Choice.{pick}
+use Rattle.state.specs.Magic.{erased, marked, magic, throughout, holds, stateOf}
+use Rattle.geometry.specs.Geometry.{page, pages, words}
+use Rattle.geometry.specs.Refusals.{any, rowFrom, lowest, mostNumber, mostLength, badNumber, tooLong, uneven, outside, unevenPage, unevenAreas, badState, bootWords, otherWords, bootNumbers, bootRefusal, stateRefusal}
+use Rattle.mem_flash.specs.Flash.{programmed, blank, program, erasedAt, writtenAt, change, apply, applyAll, after, eraseOps}
+use Rattle.rules.specs.StateArea.{word, readState, valid, markOpen, mostMarks, firstOpen, progress, markOp, invalidateOp, magicOp}
+use Rattle.rules.specs.Steps.{toDfu, toActive, swapFrom, revertFrom, swapSteps, revertSteps, sourceOf, unitOf, chunkOps, fillOps, copyOps, onceOps, copiesOps, pageCount, swapOps, revertOps}
+use Rattle.rules.specs.Calls.{report, left}
+use Rattle.rules.specs.Boot.{renewOps, finishOps, bootOpsIn, bootOps, prepareBoot}
+use Rattle.rules.specs.FirmwareState.{setMagicOps, mark}
+use Rattle.rules.specs.Sheet.{budget, call, walk, table, computed, told, Starred, done, cut, ff, zeros, fresh, case, sizes, pages as filled}
+
+pub starred : Starred
+unfolding pick erased marked magic throughout holds stateOf page pages words any rowFrom lowest mostNumber mostLength badNumber tooLong uneven outside unevenPage unevenAreas badState bootWords otherWords bootNumbers bootRefusal stateRefusal programmed blank program erasedAt writtenAt change apply applyAll after eraseOps word readState valid markOpen mostMarks firstOpen progress markOp invalidateOp magicOp toDfu toActive swapFrom revertFrom swapSteps revertSteps sourceOf unitOf chunkOps fillOps copyOps onceOps copiesOps pageCount swapOps revertOps report left renewOps finishOps bootOpsIn bootOps prepareBoot setMagicOps mark budget call walk table computed told done cut ff zeros fresh case sizes filled
+starred = refl

@@ -1,0 +1,48 @@
+-- Document 01, "Steps": prepare_boot, and read_state. Assumes nothing.
+use mathlib.Core.Option.{some}
+use mathlib.Core.List.{List, [], _∷_, _++_}
+use Prim.Native.Nat.{ℕ, _*_}
+use lib.Dec.{ltb}
+use lib.ListN.{length}
+use Rattle.state.specs.declared.State.{State}
+use Rattle.state.specs.declared.State.the-variants.{Boot, Swap, Revert, DfuDetach}
+use Rattle.state.specs.Choice.{pick}
+use Rattle.state.specs.Magic.{magic}
+use Rattle.geometry.specs.declared.Geometry.{Geometry}
+use Rattle.geometry.specs.Refusals.{bootRefusal, stateRefusal}
+use Rattle.mem_flash.specs.Flash.{state, Flash, Op, eraseOps}
+use Rattle.rules.specs.StateArea.{readState, progress, invalidateOp, magicOp}
+use Rattle.rules.specs.Steps.{pageCount, swapOps, revertOps}
+use Rattle.rules.specs.Calls.{Call}
+
+-- the whole state area, of n bytes, erased and a magic written
+unfoldable pub renewOps : ℕ → ℕ → ℕ → ℕ → List Op
+renewOps es ws n m = eraseOps es state 0 n ++ (magicOp ws m ∷ [])
+
+-- after the revert's steps: invalidate, erase the whole state area, write the Revert magic
+unfoldable pub finishOps : Geometry → Flash → List Op
+finishOps g f = invalidateOp (g .ws) ∷ renewOps (g .es) (g .ws) (length (f .state)) (magic Revert)
+
+-- only state Swap acts: a progress below 2N swaps, any other reverts
+unfoldable pub bootOpsIn : State → Geometry → Flash → List Op
+bootOpsIn Boot g f = []
+bootOpsIn Swap g f =
+    pick (ltb (progress (g .ws) (f .state)) (2 * pageCount g f)) (swapOps g f) (revertOps g f ++ finishOps g f)
+bootOpsIn Revert g f = []
+bootOpsIn DfuDetach g f = []
+
+unfoldable pub bootOps : Geometry → Flash → List Op
+bootOps g f = bootOpsIn (readState (g .ws) (f .state)) g f
+
+-- prepare_boot carries the state read at entry
+unfoldable pub prepareBoot : Geometry → Flash → Call
+prepareBoot g f =
+    record {
+      refusal = bootRefusal g (length (f .active)) (length (f .dfu)) (length (f .state));
+      state = some (readState (g .ws) (f .state));
+      ops = bootOps g f;
+    }
+
+-- read_state of the boot loader and get_state of the firmware state do no operation
+unfoldable pub getState : ℕ → ℕ → List ℕ → Call
+getState es ws st = record { refusal = stateRefusal es ws (length st); state = some (readState ws st); ops = [] }

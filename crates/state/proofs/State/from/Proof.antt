@@ -1,0 +1,48 @@
+use mathlib.Core.Path.{_∙_, sym}
+use Rattle.state.proofs.States.{is-swap, is-revert, is-detach, is-boot}
+use borrow.Author.Needs.{needs}
+use Rattle.state.proofs.State.from.Statement.{statement}
+use Rattle.state.proofs.State.from.Tie as tie
+use Rattle.state.proofs.State.from.Reads as reads
+use Rattle.state.proofs.State.from.Lts as lts
+use Rattle.state.proofs.word.all_are.Reads as all-are-reads
+
+-- src/lib.rt:63:12
+all-are-requires : tie.Need-all-are-requires
+all-are-requires c κs = search needs
+
+-- src/lib.rt:64:13
+returns : tie.Need-returns
+returns c = is-swap _ (sym (c .before .all-are .ensures) ∙ c .if1 .taken)
+
+-- src/lib.rt:66:12
+all-are-requires-2 : tie.Need-all-are-requires-2
+all-are-requires-2 c κs = search needs
+
+-- src/lib.rt:67:13
+returns-2 : tie.Need-returns-2
+returns-2 c = is-revert _ (sym (c .before .before .before .all-are .ensures) ∙ c .before .before .if1 .left) (sym (c .before .all-are2 .ensures) ∙ c .if2 .taken)
+
+-- src/lib.rt:69:12
+all-are-requires-3 : tie.Need-all-are-requires-3
+all-are-requires-3 c κs = search needs
+
+-- src/lib.rt:70:13
+returns-3 : tie.Need-returns-3
+returns-3 c = is-detach _ (sym (c .before .before .before .before .before .all-are .ensures) ∙ c .before .before .before .before .if1 .left) (sym (c .before .before .before .all-are2 .ensures) ∙ c .before .before .if2 .left) (sym (c .before .all-are3 .ensures) ∙ c .if3 .taken)
+
+-- src/lib.rt:60:5
+returns-4 : tie.Need-returns-4
+returns-4 c = is-boot _ (sym (c .before .before .before .before .before .all-are .ensures) ∙ c .before .before .before .before .if1 .left) (sym (c .before .before .before .all-are2 .ensures) ∙ c .before .before .if2 .left) (sym (c .before .all-are3 .ensures) ∙ c .if3 .left)
+
+pub from-spec : {M : Type 1} → statement M
+from-spec =
+    tie.close
+    (tie.spec
+    all-are-requires
+    returns
+    all-are-requires-2
+    returns-2
+    all-are-requires-3
+    returns-3
+    returns-4)

@@ -1,0 +1,38 @@
+-- Laws of the two questions asked of a word, for the loops that ask them: `all_are` and `any_is` cite them, a turn and an end each.
+-- Assumes nothing.
+use mathlib.Core.Path.{_≡_, refl, sym}
+use mathlib.Core.Bool.{Bool, true, false}
+use mathlib.Core.List.{List, [], _∷_}
+use Prim.Native.Nat.{ℕ, _+_, _≤_, _<_}
+use native.Mathlib.Numerals.{add-one}
+use lib.Dec.{eqb}
+use lib.ListN.{length, getD, drop, drop-of-length-le}
+use lib.Seq.{drop-cons}
+use borrow.Author.Tests.{eq-eqb, ne-eqb}
+use Rattle.state.specs.Choice.{pick}
+use Rattle.state.specs.Magic.{throughout, holds}
+
+module _ (i v : ℕ) (xs : List ℕ) (h : i < length xs) where
+  pub all-turn : getD xs i 0 ≡ v → throughout v (drop (i + 1) xs) ≡ throughout v (drop i xs)
+  unfolding throughout pick
+  all-turn e = sym (rw (drop-cons xs i 0 h, eq-eqb _ _ e) (simp add-one))
+
+  pub all-not : (getD xs i 0 ≡ v → ⊥) → throughout v (drop i xs) ≡ false
+  unfolding throughout pick
+  all-not e = rw (drop-cons xs i 0 h, ne-eqb _ _ e)
+
+  pub any-turn : (getD xs i 0 ≡ v → ⊥) → holds v (drop (i + 1) xs) ≡ holds v (drop i xs)
+  unfolding holds pick
+  any-turn e = sym (rw (drop-cons xs i 0 h, ne-eqb _ _ e) (simp add-one))
+
+  pub any-here : getD xs i 0 ≡ v → holds v (drop i xs) ≡ true
+  unfolding holds pick
+  any-here e = rw (drop-cons xs i 0 h, eq-eqb _ _ e)
+
+pub all-end : (i v : ℕ) (xs : List ℕ) → length xs ≤ i → throughout v (drop i xs) ≡ true
+unfolding throughout
+all-end i v xs h = rw (drop-of-length-le xs h)
+
+pub any-end : (i v : ℕ) (xs : List ℕ) → length xs ≤ i → holds v (drop i xs) ≡ false
+unfolding holds
+any-end i v xs h = rw (drop-of-length-le xs h)

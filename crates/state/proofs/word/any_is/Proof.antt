@@ -1,0 +1,58 @@
+use mathlib.Core.Path.{_≡_, _∙_, sym}
+use Prim.Native.Nat.{_≤_, _-_}
+use lib.ListN.{length, drop}
+use Rattle.state.specs.Magic.{holds}
+use Rattle.state.proofs.Words.{any-turn, any-here, any-end}
+use borrow.Author.Needs.{needs}
+use Rattle.state.proofs.word.any_is.Statement.{statement}
+use Rattle.state.proofs.word.any_is.Tie as tie
+use Rattle.state.proofs.word.any_is.Reads as reads
+use Rattle.state.proofs.word.any_is.Lts as lts
+
+abbrev Inv-loop : tie.InvT-loop
+Inv-loop word value i₀ i = (i ≤ length word) × (holds value (drop i word) ≡ holds value word)
+
+abbrev μ-loop : tie.MeasureT-loop
+μ-loop word value i₀ i = length word - i
+
+-- src/word.rt:24:5
+loop-holds : tie.Need-loop-holds Inv-loop μ-loop
+loop-holds c = search needs
+
+-- src/word.rt:25:12
+shared-slice-read-if1 : tie.Need-shared-slice-read-if1 Inv-loop μ-loop
+shared-slice-read-if1 c = search needs
+
+-- src/word.rt:26:13
+returns : tie.Need-returns Inv-loop μ-loop
+returns c = sym (sym (c .before .before .before .loop .inv .1) ∙ any-here _ _ _ (c .before .before .loop-test .taken) (c .if1 .taken))
+
+-- src/word.rt:28:9
+add-i : tie.Need-add-i Inv-loop μ-loop
+add-i c = search needs
+
+-- src/word.rt:24:5
+loop-less : tie.Need-loop-less Inv-loop μ-loop
+loop-less c = search needs
+
+-- src/word.rt:24:5
+loop-again : tie.Need-loop-again Inv-loop μ-loop
+loop-again c = (search needs, any-turn _ _ _ (c .before .before .loop-test .taken) (c .if1 .left) ∙ c .before .before .before .loop .inv .1)
+
+-- src/word.rt:20:1
+returns-2 : tie.Need-returns-2 Inv-loop μ-loop
+returns-2 c = sym (sym (c .before .loop .inv .1) ∙ any-end _ _ _ (c .loop-test .left))
+
+pub any-is-spec : {M : Type 1} → statement M
+any-is-spec =
+    tie.close
+    (tie.spec
+    Inv-loop
+    μ-loop
+    loop-holds
+    shared-slice-read-if1
+    returns
+    add-i
+    loop-less
+    loop-again
+    returns-2)
