@@ -1,3 +1,4 @@
 pub mod Sheet
 pub mod StateWords
 pub mod Unique
+pub mod Did

@@ -1,0 +1,61 @@
+// What the boot loader and the firmware state both do with the state area. The Rust writes these lines in both files.
+// A word that an area does not have whole is what there is of it, so nothing is asked of the caller.
+ghost use mathlib.Core.Path.{_≡_};
+ghost use Prim.Native.Nat.{min};
+ghost use Rattle.state.specs.Magic.{throughout};
+ghost use Rattle.state_area.specs.Area.{Invalidated, Renewed};
+ghost use Rattle.rules.specs.StateArea.{word, readState, valid};
+use geometry::Offset;
+use mem_flash::Budget;
+use mem_flash::Flow;
+use state::State;
+
+fn least(a: usize, b: usize) -> usize
+    ensures { λ r. ⌜ r ≡ min a b ⌝ }
+{
+    if a < b { a } else { b }
+}
+
+// Whether each byte of word 0 is `value`.
+pub fn magic_is(state: &[u8], ws: usize, value: u8) -> bool
+    ensures { λ r. ⌜ r ≡ throughout value (word ws 0 (now (state .entry))) ⌝ }
+{
+    let end = least(ws, state.len());
+    state::word::all_are(&state[..end], value)
+}
+
+// The state that word 0 stands for.
+pub fn read(state: &[u8], ws: usize) -> State
+    ensures { λ r. ⌜ r ≡ readState ws (now (state .entry)) ⌝ }
+{
+    let end = least(ws, state.len());
+    State::from(&state[..end])
+}
+
+// Whether the progress counts: each byte of word 1 is as an erase leaves it.
+pub fn is_valid(state: &[u8], ws: usize) -> bool
+    ensures { λ r. ⌜ r ≡ valid ws (now (state .entry)) ⌝ }
+{
+    let start = least(ws, state.len());
+    let rest = &state[start..];
+    let end = least(ws, rest.len());
+    state::word::all_are(&rest[..end], State::ERASE_VALUE)
+}
+
+// Makes the progress invalid: one operation.
+pub fn invalidate(state: &mut [u8], ws: usize, left: Budget) -> Flow
+    ensures { λ r. ⌜ Invalidated (left .0) ws (now (state .entry)) (now (state .exit)) r ⌝ }
+{
+    mem_flash::write_word(state, Offset(ws), State::MARK_VALUE, ws, left)
+}
+
+// Erases the whole area, magic and progress, and writes a magic.
+pub fn renew(state: &mut [u8], ws: usize, magic: u8, left: Budget) -> Flow
+    ensures { λ r. ⌜ Renewed (left .0) ws magic (now (state .entry)) (now (state .exit)) r ⌝ }
+{
+    let n = state.len();
+    let Flow::On(rest) = mem_flash::erase(state, Offset(0), Offset(n), left) else {
+        return Flow::Cut;
+    };
+    mem_flash::write_word(state, Offset(0), magic, ws, rest)
+}
