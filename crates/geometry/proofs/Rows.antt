@@ -3,14 +3,17 @@
 use mathlib.Core.Path.{_≡_, refl, _∙_, sym}
 use mathlib.Core.Bool.{Bool, true, false}
 use mathlib.Core.List.{List, [], _∷_}
-use Prim.Native.Nat.{ℕ, _≤_, _<_}
+use Prim.Native.Nat.{ℕ, _%_, _≤_, _<_}
+use native.Mathlib.Omega.{arith}
 use lib.Dec.{lit<}
 use borrow.Author.Tests.{ltb-false}
+use Rattle.state.specs.Choice.{pick}
 use Rattle.geometry.specs.declared.Geometry.{Geometry}
-use Rattle.geometry.specs.declared.Refusal.the-variants.{Limit, Page, Area, StateArea}
+use Rattle.geometry.specs.declared.Sizes.{Sizes}
+use Rattle.geometry.specs.declared.Refusal.the-variants.{Limit, Page, Area, StateArea, BadState, Range}
 use Rattle.geometry.specs.declared.Verdict.the-variants.{Admitted as admits, Refused}
 use Rattle.geometry.specs.Geometry.{page, pages, words}
-use Rattle.geometry.specs.Refusals.{any, rowFrom, lowest, outside, unevenPage, unevenAreas, badState, bootWords, bootNumbers, bootRefusal, stateRefusal, otherWords, mostLength, number, verdict}
+use Rattle.geometry.specs.Refusals.{any, rowFrom, lowest, outside, unevenPage, unevenAreas, badState, bootWords, bootNumbers, bootRefusal, stateRefusal, updaterRefusal, uneven, otherWords, mostLength, number, verdict}
 use Rattle.geometry.specs.Admitted.{Number, Numbers, Admitted}
 use Rattle.geometry.proofs.Tests.{any-none, row-none, row-here, row-past, row-end, number-in, length-in, even}
 
@@ -140,3 +143,103 @@ module _ (es ws ls : ℕ) where
     state-numbers =
         let a = any-none _ _ p in
         (number-in _ (a .0) .some, number-in _ (any-none _ _ (a .1) .0) .some)
+
+-- the updater: rows 1 to 4
+module _ (z : Sizes) (ld ls : ℕ) where
+  pub updater-limit : outside (z .ed ∷ z .wd ∷ z .es ∷ z .ws ∷ []) (ld ∷ ls ∷ []) ≡ true → verdict (Refused Limit) ≡ updaterRefusal z ld ls false false
+  unfolding verdict number updaterRefusal lowest
+  updater-limit p = sym (row-here 1 _ _ p)
+
+  module _ (p : outside (z .ed ∷ z .wd ∷ z .es ∷ z .ws ∷ []) (ld ∷ ls ∷ []) ≡ false) where
+    -- the numbers are positive, so that they may divide
+    pub updater-numbers : (0 < z .ed) × (0 < z .wd) × (0 < z .es) × (0 < z .ws)
+    unfolding outside
+    updater-numbers =
+        let a = any-none _ _ p in
+        let b = any-none _ _ (a .1) in
+        let c = any-none _ _ (b .1) in
+        let d = any-none _ _ (c .1) in
+        (number-in _ (a .0) .some, number-in _ (b .0) .some, number-in _ (c .0) .some, number-in _ (d .0) .some)
+
+    pub updater-page : uneven (z .ed) (z .wd) ≡ true → verdict (Refused Page) ≡ updaterRefusal z ld ls false false
+    unfolding verdict number updaterRefusal lowest
+    updater-page q = sym (row-past 1 _ _ p ∙ row-here 2 _ _ q)
+
+    module _ (q : uneven (z .ed) (z .wd) ≡ false) where
+      pub updater-area : uneven ld (z .ed) ≡ true → verdict (Refused Area) ≡ updaterRefusal z ld ls false false
+      unfolding verdict number updaterRefusal lowest
+      updater-area r = sym (row-past 1 _ _ p ∙ row-past 2 _ _ q ∙ row-here 3 _ _ r)
+
+      module _ (r : uneven ld (z .ed) ≡ false) where
+        pub updater-state : badState 2 (z .es) (z .ws) ls ≡ true → verdict (Refused StateArea) ≡ updaterRefusal z ld ls false false
+        unfolding verdict number updaterRefusal lowest otherWords
+        updater-state s = sym (row-past 1 _ _ p ∙ row-past 2 _ _ q ∙ row-past 3 _ _ r ∙ row-here 4 _ _ s)
+
+        pub updater-admitted : badState 2 (z .es) (z .ws) ls ≡ false → verdict admits ≡ updaterRefusal z ld ls false false
+        unfolding verdict updaterRefusal lowest otherWords
+        updater-admitted s =
+            sym (row-past 1 _ _ p ∙ row-past 2 _ _ q ∙ row-past 3 _ _ r ∙ row-past 4 _ _ s ∙ row-past 5 _ _ refl ∙ row-past 6 _ _ refl ∙ row-end 7)
+
+-- what the updater's rows 1 to 4 leave: the areas are whole numbers of units
+pub record UpdaterAdmitted (z : Sizes) (ld : ℕ) : Type 0 where
+  pub ed : Number (z .ed)
+  pub wd : Number (z .wd)
+  pub dfu-units : ld % z .ed ≡ 0
+  pub dfu-most : ld ≤ mostLength
+
+pub updater-admits : (z : Sizes) (ld ls : ℕ) (swap range : Bool) → updaterRefusal z ld ls swap range ≡ 0
+    → UpdaterAdmitted z ld × (range ≡ false)
+unfolding updaterRefusal lowest outside
+updater-admits z ld ls swap range e =
+    let r = row-none _ _ _ (lit< tt) e in
+    let s = row-none _ _ _ (lit< tt) (r .1) in
+    let t = row-none _ _ _ (lit< tt) (s .1) in
+    let u = row-none _ _ _ (lit< tt) (t .1) in
+    let v = row-none _ _ _ (lit< tt) (u .1) in
+    let w = row-none _ _ _ (lit< tt) (v .1) in
+    let a = any-none _ _ (r .0) in
+    let b = any-none _ _ (a .1) in
+    let c = any-none _ _ (b .1) in
+    let d = any-none _ _ (c .1) in
+    let l = any-none _ _ (d .1) in
+    (record { ed = number-in _ (a .0); wd = number-in _ (b .0); dfu-units = even _ _ (t .0); dfu-most = length-in _ (l .0) }, w .0)
+
+early : (a b c d s r : Bool) (n : ℕ) → 0 < n → n ≡ rowFrom 1 (a ∷ b ∷ c ∷ d ∷ false ∷ false ∷ [])
+    → n ≡ rowFrom 1 (a ∷ b ∷ c ∷ d ∷ s ∷ r ∷ [])
+unfolding rowFrom pick
+early true b c d s r n h e = e
+early false true c d s r n h e = e
+early false false true d s r n h e = e
+early false false false true s r n h e = e
+early false false false false s r n h e = absurd (omega arith)
+
+-- rows 1 to 4 of the updater, said of any rows 5 and 6
+module _ (z : Sizes) (ld ls : ℕ) (swap range : Bool) where
+  -- one of rows 1 to 4 holds: it is given whatever rows 5 and 6 say
+  pub updater-early : (n : ℕ) → 0 < n → n ≡ updaterRefusal z ld ls false false → n ≡ updaterRefusal z ld ls swap range
+  unfolding updaterRefusal lowest
+  updater-early n h e = early _ _ _ _ swap range n h e
+
+  -- none holds: row 5 decides, and then row 6
+  module _ (e : updaterRefusal z ld ls false false ≡ 0) where
+    late : updaterRefusal z ld ls swap range ≡ rowFrom 5 (swap ∷ range ∷ [])
+    unfolding updaterRefusal lowest
+    late =
+        let a = row-none _ _ _ (lit< tt) e in
+        let b = row-none _ _ _ (lit< tt) (a .1) in
+        let c = row-none _ _ _ (lit< tt) (b .1) in
+        let d = row-none _ _ _ (lit< tt) (c .1) in
+        row-past 1 _ _ (a .0) ∙ row-past 2 _ _ (b .0) ∙ row-past 3 _ _ (c .0) ∙ row-past 4 _ _ (d .0)
+
+    pub updater-swap : swap ≡ true → verdict (Refused BadState) ≡ updaterRefusal z ld ls swap range
+    unfolding verdict number
+    updater-swap h = sym (late ∙ row-here 5 _ _ h)
+
+    module _ (h : swap ≡ false) where
+      pub updater-range : range ≡ true → verdict (Refused Range) ≡ updaterRefusal z ld ls swap range
+      unfolding verdict number
+      updater-range k = sym (late ∙ row-past 5 _ _ h ∙ row-here 6 _ _ k)
+
+      pub updater-passed : range ≡ false → verdict admits ≡ updaterRefusal z ld ls swap range
+      unfolding verdict
+      updater-passed k = sym (late ∙ row-past 5 _ _ h ∙ row-past 6 _ _ k ∙ row-end 7)

@@ -8,6 +8,7 @@ ghost use Rattle.geometry.specs.Geometry.{pages};
 ghost use Rattle.geometry.specs.Admitted.{Numbers};
 ghost use Rattle.geometry.specs.Refusals.{any, badNumber, tooLong, uneven, outside, unevenPage, unevenAreas, badState, bootWords, bootNumbers, mostLength};
 use crate::Geometry;
+use crate::Sizes;
 
 // The first test, or the list of tests that follow it.
 pub fn or(first: bool, rest: bool) -> bool
@@ -61,6 +62,15 @@ pub fn state_limits(es: u32, ws: u32, ls: usize) -> bool
     ensures { λ r. ⌜ r ≡ outside (es ∷ ws ∷ []) (ls ∷ []) ⌝ }
 {
     or(bad_number(es), or(bad_number(ws), last(too_long(ls))))
+}
+
+// Row 1 of the updater.
+pub fn updater_limits(z: Sizes, ld: usize, ls: usize) -> bool
+    ensures { λ r. ⌜ r ≡ outside (z .ed ∷ z .wd ∷ z .es ∷ z .ws ∷ []) (ld ∷ ls ∷ []) ⌝ }
+{
+    let lengths = or(too_long(ld), last(too_long(ls)));
+    let state = or(bad_number(z.es), or(bad_number(z.ws), lengths));
+    or(bad_number(z.ed), or(bad_number(z.wd), state))
 }
 
 // Row 2 of prepare_boot.

@@ -2,7 +2,8 @@
 // `prepare_boot` and `assert_partitions` of boot_loader.rs.
 ghost use mathlib.Core.Path.{_≡_};
 ghost use Rattle.geometry.specs.Geometry.{page};
-ghost use Rattle.geometry.specs.Refusals.{number, verdict, bootRefusal, stateRefusal};
+ghost use mathlib.Core.Bool.{false};
+ghost use Rattle.geometry.specs.Refusals.{number, verdict, bootRefusal, stateRefusal, updaterRefusal};
 
 mod check;
 
@@ -113,6 +114,25 @@ pub fn state_verdict(es: u32, ws: u32, ls: usize) -> Verdict
         return Verdict::Refused(Refusal::Limit);
     }
     if check::bad_state(2, es as usize, ws as usize, ls) {
+        return Verdict::Refused(Refusal::StateArea);
+    }
+    Verdict::Admitted
+}
+
+// Whether the updater takes these sizes with areas of these lengths: rows 1 to 4. Rows 5 and 6 are asked by its calls.
+pub fn updater_verdict(z: Sizes, ld: usize, ls: usize) -> Verdict
+    ensures { λ r. ⌜ verdict r ≡ updaterRefusal z ld ls false false ⌝ }
+{
+    if check::updater_limits(z, ld, ls) {
+        return Verdict::Refused(Refusal::Limit);
+    }
+    if check::uneven(z.ed as usize, z.wd as usize) {
+        return Verdict::Refused(Refusal::Page);
+    }
+    if check::uneven(ld, z.ed as usize) {
+        return Verdict::Refused(Refusal::Area);
+    }
+    if check::bad_state(2, z.es as usize, z.ws as usize, ls) {
         return Verdict::Refused(Refusal::StateArea);
     }
     Verdict::Admitted

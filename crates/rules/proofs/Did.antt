@@ -26,7 +26,7 @@ use Rattle.rules.specs.declared.Answer.the-variants.{Found, Done, Refuse
 use Rattle.rules.specs.Calls.{Call, reported, report, left, Did}
 
 -- a refusal has a number of its own
-number-some : (w : Refusal) → 0 < number w
+pub number-some : (w : Refusal) → 0 < number w
 unfolding number
 number-some Limit = lit< tt
 number-some Page = lit< tt
@@ -53,11 +53,11 @@ cut-count k n true x e = let z : _≡_ {A = ℕ} 0 1 = cc in absurd (omega arith
 cut-count k n false x e = x
 
 module _ (k : ℕ) (os : List Op) (f f₁ : Flash) (r : Flow) (w : Ran k os f f₁ r) where
-  ran-count : (l : Budget) → r ≡ flows.On l → (length os ≤ k) × (l .0 ≡ k - length os)
+  pub ran-count : (l : Budget) → r ≡ flows.On l → (length os ≤ k) × (l .0 ≡ k - length os)
   unfolding outcome
   ran-count l o = on-count k (length os) l _ refl (sym o ∙ w .flow)
 
-  ran-over : r ≡ flows.Cut → leb (length os) k ≡ false
+  pub ran-over : r ≡ flows.Cut → leb (length os) k ≡ false
   unfolding outcome
   ran-over o = cut-count k (length os) _ refl (sym o ∙ w .flow)
 
@@ -79,13 +79,19 @@ module _ (c : Call) (k : ℕ) (f : Flash) where
     admits : eqb (c .refusal) 0 ≡ true
     admits = eq-eqb _ _ a
 
+    none-done : (k : ℕ) → f ≡ after k [] f
+    unfolding after applyAll
+    none-done zero = refl
+    none-done (suc k) = refl
+
+    -- a call without operations
     pub did-nothing : (s : State) → c .state ≡ some s → c .ops ≡ [] → Did c k f f (Found s 0)
-    unfolding report left reported pick after applyAll
+    unfolding report left reported pick
     did-nothing s e o = record { answer = rw (admits, o, leb·zero k, e); flash = rw (admits, o) (none-done k) }
-      where
-        none-done : (k : ℕ) → f ≡ applyAll (take k []) f
-        none-done zero = refl
-        none-done (suc k) = refl
+
+    pub did-idle : c .state ≡ none → c .ops ≡ [] → Did c k f f (Done 0)
+    unfolding report left reported pick
+    did-idle e o = record { answer = rw (admits, o, leb·zero k, e); flash = rw (admits, o) (none-done k) }
 
     module _ (f₁ : Flash) (r : Flow) (w : Ran k (c .ops) f f₁ r) where
       pub did-cut : r ≡ flows.Cut → Did c k f f₁ (Cut k)

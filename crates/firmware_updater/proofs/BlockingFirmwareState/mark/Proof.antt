@@ -1,0 +1,77 @@
+use mathlib.Core.Path.{ap, sym, _∙_}
+use mathlib.Core.List.{[]}
+use Rattle.mem_flash.proofs.Runs.{ran}
+use Rattle.rules.specs.FirmwareState.{setMagicOps}
+use Rattle.rules.proofs.Did.{did-refused, on-low}
+use Rattle.firmware_updater.proofs.Answers.{mark-cut, mark-done}
+use borrow.Author.Needs.{needs}
+use Rattle.firmware_updater.proofs.BlockingFirmwareState.mark.Statement.{statement}
+use Rattle.firmware_updater.proofs.BlockingFirmwareState.mark.Tie as tie
+use Rattle.firmware_updater.proofs.BlockingFirmwareState.mark.Reads as reads
+use Rattle.firmware_updater.proofs.BlockingFirmwareState.mark.Lts as lts
+use Rattle.firmware_updater.proofs.BlockingFirmwareState.set_magic.Reads as set-magic-reads
+use Rattle.state.proofs.State.magic.Reads as magic-reads
+
+-- src/lib.rt:279:33
+enum-known-judged : tie.Need-enum-known-judged
+enum-known-judged c = search needs
+
+-- src/lib.rt:280:13
+returns : tie.Need-returns
+returns c = λ k es a d e s x. did-refused k _ _ _ _ e (c .before .judged .given .1)
+
+enum-told : tie.Need-enum-told
+enum-told c = search needs
+
+-- src/lib.rt:282:52
+magic-requires : tie.Need-magic-requires
+magic-requires c κs = search needs
+
+-- src/lib.rt:282:30
+set-magic-requires : tie.Need-set-magic-requires
+set-magic-requires c κs = search needs
+
+-- src/lib.rt:282:22
+enum-known-rest : tie.Need-enum-known-rest
+enum-known-rest c = search needs
+
+-- src/lib.rt:283:13
+enum-told-2 : tie.Need-enum-told-2
+enum-told-2 c = search needs
+
+-- src/lib.rt:283:13
+same-length : tie.Need-same-length
+same-length c = search needs
+
+-- src/lib.rt:283:13
+returns-2 : tie.Need-returns-2
+returns-2 c = λ k es a d e s x. let g = c .before .before .before .before .before .before .before .before .before .before .args in mark-cut k _ _ _ a d _ _ _ e (c .before .before .before .before .before .before .before .enum-told .given .1) s (x ∙ ap (λ m. setMagicOps es (g .self .ws) m (g .state .now)) (sym (c .before .before .before .before .before .magic .ensures))) (c .before .before .before .before .set-magic .ensures es) (c .enum-told2 .given .1)
+
+-- src/lib.rt:285:22
+sub-t13 : tie.Need-sub-t13
+sub-t13 c = on-low _ _ _ _ _ (ran _ _ _ _ _ (c .before .before .before .before .before .before .set-magic .ensures 0 [] [])) _ (c .before .before .rest .given .1)
+
+-- src/lib.rt:275:5
+same-length-2 : tie.Need-same-length-2
+same-length-2 c = search needs
+
+-- src/lib.rt:275:5
+returns-3 : tie.Need-returns-3
+returns-3 c = λ k es a d e s x. let g = c .before .before .before .before .before .before .before .before .before .before .before .before .args in mark-done k _ _ _ a d _ _ _ e (c .before .before .before .before .before .before .before .before .before .enum-told .given .1) s (x ∙ ap (λ m. setMagicOps es (g .self .ws) m (g .state .now)) (sym (c .before .before .before .before .before .before .before .magic .ensures))) (c .before .before .before .before .before .before .set-magic .ensures es) _ (c .before .before .rest .given .1)
+
+pub mark-spec : {M : Type 1} → statement M
+mark-spec =
+    tie.close
+    (tie.spec
+    enum-known-judged
+    returns
+    enum-told
+    magic-requires
+    set-magic-requires
+    enum-known-rest
+    enum-told-2
+    same-length
+    returns-2
+    sub-t13
+    same-length-2
+    returns-3)

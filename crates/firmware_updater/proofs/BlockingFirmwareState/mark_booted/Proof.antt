@@ -1,0 +1,31 @@
+use mathlib.Core.Path.{refl}
+use mathlib.Core.List.{[]}
+use Rattle.state.specs.declared.State.the-variants.{Boot}
+use Rattle.rules.specs.FirmwareState.{mark}
+use borrow.Author.Needs.{needs}
+use Rattle.firmware_updater.proofs.BlockingFirmwareState.mark_booted.Statement.{statement}
+use Rattle.firmware_updater.proofs.BlockingFirmwareState.mark_booted.Tie as tie
+use Rattle.firmware_updater.proofs.BlockingFirmwareState.mark_booted.Reads as reads
+use Rattle.firmware_updater.proofs.BlockingFirmwareState.mark_booted.Lts as lts
+use Rattle.firmware_updater.proofs.BlockingFirmwareState.mark.Reads as mark-reads
+use Rattle.geometry.proofs.state_verdict.Reads as state-verdict-reads
+
+-- src/lib.rt:270:13
+state-verdict-requires : tie.Need-state-verdict-requires
+state-verdict-requires c κs = search needs
+
+-- src/lib.rt:271:9
+mark-requires : tie.Need-mark-requires
+mark-requires c κs = search needs
+
+-- src/lib.rt:267:5
+same-length : tie.Need-same-length
+same-length c = search needs
+
+-- src/lib.rt:267:5
+returns : tie.Need-returns
+unfolding mark
+returns c = let a = c .before .before .before .before .before .before .args in c .before .before .mark .ensures (mark Boot (a .self .es) (a .self .ws) (a .state .now)) (a .self .es) [] [] (c .before .before .before .before .state-verdict .ensures) refl refl
+
+pub mark-booted-spec : {M : Type 1} → statement M
+mark-booted-spec = tie.close (tie.spec state-verdict-requires mark-requires same-length returns)

@@ -1,0 +1,31 @@
+use mathlib.Core.Path.{refl}
+use mathlib.Core.List.{[]}
+use Rattle.state.specs.declared.State.the-variants.{DfuDetach}
+use Rattle.rules.specs.FirmwareState.{mark}
+use borrow.Author.Needs.{needs}
+use Rattle.firmware_updater.proofs.BlockingFirmwareState.mark_dfu.Statement.{statement}
+use Rattle.firmware_updater.proofs.BlockingFirmwareState.mark_dfu.Tie as tie
+use Rattle.firmware_updater.proofs.BlockingFirmwareState.mark_dfu.Reads as reads
+use Rattle.firmware_updater.proofs.BlockingFirmwareState.mark_dfu.Lts as lts
+use Rattle.firmware_updater.proofs.BlockingFirmwareState.mark.Reads as mark-reads
+use Rattle.geometry.proofs.state_verdict.Reads as state-verdict-reads
+
+-- src/lib.rt:262:13
+state-verdict-requires : tie.Need-state-verdict-requires
+state-verdict-requires c κs = search needs
+
+-- src/lib.rt:263:9
+mark-requires : tie.Need-mark-requires
+mark-requires c κs = search needs
+
+-- src/lib.rt:259:5
+same-length : tie.Need-same-length
+same-length c = search needs
+
+-- src/lib.rt:259:5
+returns : tie.Need-returns
+unfolding mark
+returns c = let a = c .before .before .before .before .before .before .args in c .before .before .mark .ensures (mark DfuDetach (a .self .es) (a .self .ws) (a .state .now)) (a .self .es) [] [] (c .before .before .before .before .state-verdict .ensures) refl refl
+
+pub mark-dfu-spec : {M : Type 1} → statement M
+mark-dfu-spec = tie.close (tie.spec state-verdict-requires mark-requires same-length returns)

@@ -1,0 +1,31 @@
+use mathlib.Core.Path.{refl}
+use mathlib.Core.List.{[]}
+use Rattle.state.specs.declared.State.the-variants.{Swap}
+use Rattle.rules.specs.FirmwareState.{mark}
+use borrow.Author.Needs.{needs}
+use Rattle.firmware_updater.proofs.BlockingFirmwareState.mark_updated.Statement.{statement}
+use Rattle.firmware_updater.proofs.BlockingFirmwareState.mark_updated.Tie as tie
+use Rattle.firmware_updater.proofs.BlockingFirmwareState.mark_updated.Reads as reads
+use Rattle.firmware_updater.proofs.BlockingFirmwareState.mark_updated.Lts as lts
+use Rattle.firmware_updater.proofs.BlockingFirmwareState.mark.Reads as mark-reads
+use Rattle.geometry.proofs.state_verdict.Reads as state-verdict-reads
+
+-- src/lib.rt:254:13
+state-verdict-requires : tie.Need-state-verdict-requires
+state-verdict-requires c κs = search needs
+
+-- src/lib.rt:255:9
+mark-requires : tie.Need-mark-requires
+mark-requires c κs = search needs
+
+-- src/lib.rt:251:5
+same-length : tie.Need-same-length
+same-length c = search needs
+
+-- src/lib.rt:251:5
+returns : tie.Need-returns
+unfolding mark
+returns c = let a = c .before .before .before .before .before .before .args in c .before .before .mark .ensures (mark Swap (a .self .es) (a .self .ws) (a .state .now)) (a .self .es) [] [] (c .before .before .before .before .state-verdict .ensures) refl refl
+
+pub mark-updated-spec : {M : Type 1} → statement M
+mark-updated-spec = tie.close (tie.spec state-verdict-requires mark-requires same-length returns)

@@ -1,0 +1,96 @@
+use mathlib.Core.Path.{sym, _∙_}
+use Rattle.firmware_updater.proofs.Answers.{magic-there, magic-renew, magic-cut, magic-on}
+use borrow.Author.Needs.{needs}
+use Rattle.firmware_updater.proofs.BlockingFirmwareState.set_magic.Statement.{statement}
+use Rattle.firmware_updater.proofs.BlockingFirmwareState.set_magic.Tie as tie
+use Rattle.firmware_updater.proofs.BlockingFirmwareState.set_magic.Reads as reads
+use Rattle.firmware_updater.proofs.BlockingFirmwareState.set_magic.Lts as lts
+use Rattle.state_area.proofs.invalidate.Reads as invalidate-reads
+use Rattle.state_area.proofs.is_valid.Reads as is-valid-reads
+use Rattle.state_area.proofs.magic_is.Reads as magic-is-reads
+use Rattle.state_area.proofs.renew.Reads as renew-reads
+
+-- src/lib.rt:292:18
+cast-ws : tie.Need-cast-ws
+cast-ws c = search needs
+
+-- src/lib.rt:293:12
+magic-is-requires : tie.Need-magic-is-requires
+magic-is-requires c κs = search needs
+
+-- src/lib.rt:294:13
+same-length : tie.Need-same-length
+same-length c = search needs
+
+-- src/lib.rt:294:13
+returns : tie.Need-returns
+returns c = λ es. magic-there es _ _ 0 _ _ (sym (c .before .magic-is .ensures) ∙ c .if1 .taken)
+
+-- src/lib.rt:296:12
+is-valid-requires : tie.Need-is-valid-requires
+is-valid-requires c κs = search needs
+
+-- src/lib.rt:297:34
+invalidate-requires : tie.Need-invalidate-requires
+invalidate-requires c κs = search needs
+
+-- src/lib.rt:297:26
+enum-known-rest : tie.Need-enum-known-rest
+enum-known-rest c = search needs
+
+-- src/lib.rt:298:17
+enum-told : tie.Need-enum-told
+enum-told c = search needs
+
+-- src/lib.rt:298:17
+same-length-2 : tie.Need-same-length-2
+same-length-2 c = search needs
+
+-- src/lib.rt:298:17
+returns-2 : tie.Need-returns-2
+returns-2 c = λ es. magic-cut es _ _ _ _ (sym (c .before .before .before .before .before .before .before .before .before .before .magic-is .ensures) ∙ c .before .before .before .before .before .before .before .before .before .if1 .left) (sym (c .before .before .before .before .before .before .before .is-valid .ensures) ∙ c .before .before .before .before .before .before .if2 .taken) _ _ (c .before .before .before .before .invalidate .ensures) (c .enum-told .given .1)
+
+-- src/lib.rt:300:13
+renew-requires : tie.Need-renew-requires
+renew-requires c κs = search needs
+
+-- src/lib.rt:300:13
+same-length-3 : tie.Need-same-length-3
+same-length-3 c = search needs
+
+-- src/lib.rt:300:13
+returns-3 : tie.Need-returns-3
+returns-3 c = λ es. magic-on es _ _ _ _ (sym (c .before .before .before .before .before .before .before .before .before .before .before .before .before .before .before .magic-is .ensures) ∙ c .before .before .before .before .before .before .before .before .before .before .before .before .before .before .if1 .left) (sym (c .before .before .before .before .before .before .before .before .before .before .before .before .is-valid .ensures) ∙ c .before .before .before .before .before .before .before .before .before .before .before .if2 .taken) _ _ (c .before .before .before .before .before .before .before .before .before .invalidate .ensures) _ _ _ (c .before .before .before .before .before .rest .given .1) (c .before .before .before .before .before .before .before .before .before .invalidate .kept .0) (c .before .before .renew .ensures)
+
+-- src/lib.rt:302:9
+renew-requires-2 : tie.Need-renew-requires-2
+renew-requires-2 c κs = search needs
+
+-- src/lib.rt:289:5
+same-length-4 : tie.Need-same-length-4
+same-length-4 c = search needs
+
+-- src/lib.rt:289:5
+returns-4 : tie.Need-returns-4
+returns-4 c = λ es. magic-renew es _ _ _ _ (sym (c .before .before .before .before .before .before .before .before .magic-is .ensures) ∙ c .before .before .before .before .before .before .before .if1 .left) _ _ (sym (c .before .before .before .before .before .is-valid .ensures) ∙ c .before .before .before .before .if2 .left) (c .before .before .renew2 .ensures)
+
+pub set-magic-spec : {M : Type 1} → statement M
+set-magic-spec =
+    tie.close
+    (tie.spec
+    cast-ws
+    magic-is-requires
+    same-length
+    returns
+    is-valid-requires
+    invalidate-requires
+    enum-known-rest
+    enum-told
+    same-length-2
+    returns-2
+    renew-requires
+    same-length-3
+    returns-3
+    renew-requires-2
+    same-length-4
+    returns-4)

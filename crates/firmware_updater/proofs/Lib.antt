@@ -1,0 +1,4 @@
+pub mod Cutting
+pub mod Writes
+pub mod Loop
+pub mod Answers

@@ -1,0 +1,29 @@
+use mathlib.Core.Path.{sym, ap}
+use Rattle.rules.specs.declared.Sector.{Sector}
+use Rattle.rules.specs.FirmwareUpdater.{remembers}
+use borrow.Author.Needs.{needs}
+use Rattle.firmware_updater.proofs.pieces.is_last.Statement.{statement}
+use Rattle.firmware_updater.proofs.pieces.is_last.Tie as tie
+use Rattle.firmware_updater.proofs.pieces.is_last.Reads as reads
+use Rattle.firmware_updater.proofs.pieces.is_last.Lts as lts
+
+-- src/pieces.rt:27:25
+enum-told : tie.Need-enum-told
+enum-told c = search needs
+
+-- src/pieces.rt:28:20
+enum-known-last : tie.Need-enum-known-last
+enum-known-last c = search needs
+
+-- src/pieces.rt:23:1
+returns : tie.Need-returns
+unfolding remembers
+returns c = sym (ap (λ (m : Sector). remembers m (c .before .before .args .sector)) (c .enum-told .given .1))
+
+-- src/pieces.rt:23:1
+returns-2 : tie.Need-returns-2
+unfolding remembers
+returns-2 c = sym (ap (λ (m : Sector). remembers m (c .before .before .before .args .sector)) (c .before .last .given .1))
+
+pub is-last-spec : {M : Type 1} → statement M
+is-last-spec = tie.close (tie.spec enum-told enum-known-last returns returns-2)

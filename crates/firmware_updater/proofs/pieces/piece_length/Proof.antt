@@ -1,0 +1,29 @@
+use native.Mathlib.Omega.{arith}
+use native.Mathlib.Nat.{mod-lt}
+use Rattle.rules.specs.FirmwareUpdater.{room}
+use borrow.Author.Needs.{needs}
+use Rattle.firmware_updater.proofs.pieces.piece_length.Statement.{statement}
+use Rattle.firmware_updater.proofs.pieces.piece_length.Tie as tie
+use Rattle.firmware_updater.proofs.pieces.piece_length.Reads as reads
+use Rattle.firmware_updater.proofs.pieces.piece_length.Lts as lts
+
+-- src/pieces.rt:69:21
+rem-room : tie.Need-rem-room
+rem-room c = search needs
+
+-- src/pieces.rt:69:16
+sub-room : tie.Need-sub-room
+sub-room c = omega (arith, mod-lt (c .args .offset) (c .pre .0))
+
+-- src/pieces.rt:65:1
+returns : tie.Need-returns
+unfolding room
+returns c = let m = mod-lt (c .before .args .offset) (c .before .pre .0) in (omega arith, omega arith, omega arith)
+
+-- src/pieces.rt:65:1
+returns-2 : tie.Need-returns-2
+unfolding room
+returns-2 c = let m = mod-lt (c .before .args .offset) (c .before .pre .0) in (omega arith, omega arith, omega arith)
+
+pub piece-length-spec : {M : Type 1} → statement M
+piece-length-spec = tie.close (tie.spec rem-room sub-room returns returns-2)

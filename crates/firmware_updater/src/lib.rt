@@ -1,0 +1,312 @@
+// The firmware updater and the firmware state: firmware_updater/blocking.rs. The areas are lent to each call, the sizes stand
+// by value in the records, and a budget of operations stands for the power supply.
+ghost use mathlib.Core.Path.{_≡_};
+ghost use mathlib.Core.Bool.{Bool, true, false, not};
+ghost use mathlib.Core.Option.{none};
+ghost use mathlib.Core.List.{List, [], _∷_};
+ghost use Prim.Native.Nat.{ℕ, _+_, _≤_, _<_};
+ghost use lib.ListN.{length, take, drop};
+ghost use Rattle.state.specs.declared.State.{State};
+ghost use Rattle.state.specs.Magic.{magic};
+ghost use Rattle.geometry.specs.Refusals.{verdict, updaterRefusal};
+ghost use Rattle.mem_flash.specs.Run.{flash};
+ghost use Rattle.rules.specs.declared.Sector.{Sector};
+ghost use Rattle.rules.specs.Calls.{Call, reported, report, Did};
+ghost use Rattle.rules.specs.Boot.{getState};
+ghost use Rattle.rules.specs.FirmwareState.{setMagicOps, mark};
+ghost use Rattle.rules.specs.FirmwareUpdater.{pending, pastEnd, badRange, updaterGetState, updaterMarkUpdated, updaterMarkDfu, updaterMarkBooted, readDfu, readOut};
+ghost use Rattle.state_area.specs.Area.{InState};
+ghost use Rattle.firmware_updater.specs.Updated.{lastOf, remembering, WroteFirmware, PreparedUpdate};
+
+mod pieces;
+mod range;
+
+use geometry::Offset;
+use geometry::Refusal;
+use geometry::Sizes;
+use geometry::Verdict;
+use mem_flash::Budget;
+use mem_flash::Flow;
+use rules::Answer;
+use rules::Sector;
+use state::State;
+
+// The application's side: new firmware is written to DFU, and the next boot is told of it. The record is handed in and back;
+// it holds the sizes, and the sector that was erased last.
+pub struct BlockingFirmwareUpdater {
+    pub sizes: Sizes,
+    pub last_erased_dfu_sector_index: Sector,
+}
+
+// A call's answer with the record that it hands back.
+pub struct Written {
+    pub updater: BlockingFirmwareUpdater,
+    pub answer: Answer,
+}
+
+impl BlockingFirmwareUpdater {
+    pub fn new(sizes: Sizes) -> Self
+        ensures { λ r. ⌜ (r .sizes ≡ sizes) × (lastOf r ≡ Sector.None) ⌝ }
+    {
+        BlockingFirmwareUpdater {
+            sizes,
+            last_erased_dfu_sector_index: Sector::None,
+        }
+    }
+
+    pub fn get_state(self, dfu: &[u8], state: &[u8]) -> Answer
+        ensures { λ r. ⌜ reported r ≡ report (updaterGetState (self .sizes) (flash [] (now (dfu .entry)) (now (state .entry)))) 0 ⌝ }
+    {
+        let z = self.sizes;
+        let judged = geometry::updater_verdict(z, dfu.len(), state.len());
+        if let Verdict::Refused(why) = judged {
+            return Answer::Refused(why);
+        }
+        Answer::Found(state_area::read(state, z.ws as usize), 0)
+    }
+
+    // Fills the buffer with the bytes of DFU from an offset on.
+    pub fn read_dfu(self, dfu: &[u8], state: &[u8], offset: u32, buf: &mut [u8]) -> Answer
+        ensures { λ r. ⌜ (reported r ≡ report (readDfu (self .sizes) offset (length (now (buf .entry))) (flash [] (now (dfu .entry)) (now (state .entry)))) 0)
+            × (now (buf .exit) ≡ readOut (self .sizes) offset (now (buf .entry)) (flash [] (now (dfu .entry)) (now (state .entry)))) ⌝ }
+    {
+        let judged = geometry::updater_verdict(self.sizes, dfu.len(), state.len());
+        if let Verdict::Refused(why) = judged {
+            return Answer::Refused(why);
+        }
+        let from = offset as usize;
+        if range::past_end(dfu.len(), from, buf.len()) {
+            return Answer::Refused(Refusal::Range);
+        }
+        range::copy_out(buf, dfu, from);
+        Answer::Done(0)
+    }
+
+    pub fn mark_updated(self, dfu: &[u8], state: &mut [u8], budget: u32) -> Answer
+        ensures { λ r. ⌜ Did (updaterMarkUpdated (self .sizes) (flash [] (now (dfu .entry)) (now (state .entry)))) budget
+            (flash [] (now (dfu .entry)) (now (state .entry))) (flash [] (now (dfu .entry)) (now (state .exit))) r ⌝ }
+    {
+        let judged = geometry::updater_verdict(self.sizes, dfu.len(), state.len());
+        self.state().mark(state, State::Swap, judged, budget)
+    }
+
+    // Not while a swap is pending.
+    pub fn mark_dfu(self, dfu: &[u8], state: &mut [u8], budget: u32) -> Answer
+        ensures { λ r. ⌜ Did (updaterMarkDfu (self .sizes) (flash [] (now (dfu .entry)) (now (state .entry)))) budget
+            (flash [] (now (dfu .entry)) (now (state .entry))) (flash [] (now (dfu .entry)) (now (state .exit))) r ⌝ }
+    {
+        let judged = self.booted_verdict(dfu.len(), state);
+        self.state().mark(state, State::DfuDetach, judged, budget)
+    }
+
+    pub fn mark_booted(self, dfu: &[u8], state: &mut [u8], budget: u32) -> Answer
+        ensures { λ r. ⌜ Did (updaterMarkBooted (self .sizes) (flash [] (now (dfu .entry)) (now (state .entry)))) budget
+            (flash [] (now (dfu .entry)) (now (state .entry))) (flash [] (now (dfu .entry)) (now (state .exit))) r ⌝ }
+    {
+        let judged = geometry::updater_verdict(self.sizes, dfu.len(), state.len());
+        self.state().mark(state, State::Boot, judged, budget)
+    }
+
+    // Writes data at an offset of DFU, sector by sector. Not while a swap is pending.
+    pub fn write_firmware(
+        self,
+        dfu: &mut [u8],
+        state: &[u8],
+        offset: usize,
+        data: &[u8],
+        budget: u32,
+    ) -> Written
+        ensures { λ r. ⌜ WroteFirmware self budget offset (now («data» .entry)) (now (dfu .entry)) (now (state .entry)) (now (dfu .exit)) (r .updater) (r .answer) ⌝ }
+    {
+        let judged = self.write_verdict(dfu.len(), state, offset, data.len());
+        if let Verdict::Refused(why) = judged {
+            return Written {
+                updater: self,
+                answer: Answer::Refused(why),
+            };
+        }
+        let sizes = self.sizes;
+        let last = self.last_erased_dfu_sector_index;
+        let wrote = pieces::write_pieces(
+            dfu,
+            sizes.ed as usize,
+            last,
+            offset,
+            data,
+            Budget(budget),
+        );
+        let flow = wrote.flow;
+        let memory = wrote.last;
+        let updater = BlockingFirmwareUpdater {
+            sizes,
+            last_erased_dfu_sector_index: memory,
+        };
+        let Flow::On(rest) = flow else {
+            return Written {
+                updater,
+                answer: Answer::Cut(budget),
+            };
+        };
+        Written {
+            updater,
+            answer: Answer::Done(budget - rest.0),
+        }
+    }
+
+    // Erases all of DFU. Not while a swap is pending. The Rust hands DFU back; ours only answers, since DFU is the caller's.
+    pub fn prepare_update(self, dfu: &mut [u8], state: &[u8], budget: u32) -> Written
+        ensures { λ r. ⌜ PreparedUpdate self budget (now (dfu .entry)) (now (state .entry)) (now (dfu .exit)) (r .updater) (r .answer) ⌝ }
+    {
+        let judged = self.booted_verdict(dfu.len(), state);
+        if let Verdict::Refused(why) = judged {
+            return Written {
+                updater: self,
+                answer: Answer::Refused(why),
+            };
+        }
+        let n = dfu.len();
+        let Flow::On(rest) = mem_flash::erase(dfu, Offset(0), Offset(n), Budget(budget)) else {
+            return Written {
+                updater: self,
+                answer: Answer::Cut(budget),
+            };
+        };
+        Written {
+            updater: self,
+            answer: Answer::Done(budget - rest.0),
+        }
+    }
+
+    // The firmware state of the same state area. In the Rust, a field.
+    fn state(self) -> BlockingFirmwareState
+        ensures { λ r. ⌜ (r .es ≡ self .sizes .es) × (r .ws ≡ self .sizes .ws) ⌝ }
+    {
+        BlockingFirmwareState {
+            es: self.sizes.es,
+            ws: self.sizes.ws,
+        }
+    }
+
+    // Rows 1 to 5 of the table.
+    fn booted_verdict(self, ld: usize, state: &[u8]) -> Verdict
+        ensures { λ r. ⌜ verdict r ≡ updaterRefusal (self .sizes) ld (length (now (state .entry))) (pending (self .sizes .ws) (now (state .entry))) false ⌝ }
+    {
+        let judged = geometry::updater_verdict(self.sizes, ld, state.len());
+        if let Verdict::Refused(why) = judged {
+            return Verdict::Refused(why);
+        }
+        if self.state().verify_booted(state) {
+            return Verdict::Admitted;
+        }
+        Verdict::Refused(Refusal::BadState)
+    }
+
+    // Rows 1 to 6 for n bytes of data at an offset.
+    fn write_verdict(self, ld: usize, state: &[u8], offset: usize, n: usize) -> Verdict
+        ensures { λ r. ⌜ verdict r ≡ updaterRefusal (self .sizes) ld (length (now (state .entry))) (pending (self .sizes .ws) (now (state .entry))) (badRange (self .sizes .wd) ld offset n) ⌝ }
+    {
+        let judged = geometry::updater_verdict(self.sizes, ld, state.len());
+        if let Verdict::Refused(why) = judged {
+            return Verdict::Refused(why);
+        }
+        if !self.state().verify_booted(state) {
+            return Verdict::Refused(Refusal::BadState);
+        }
+        if range::bad_range(self.sizes.wd as usize, ld, offset, n) {
+            return Verdict::Refused(Refusal::Range);
+        }
+        Verdict::Admitted
+    }
+}
+
+// The state area as the application sees it.
+pub struct BlockingFirmwareState {
+    pub es: u32,
+    pub ws: u32,
+}
+
+impl BlockingFirmwareState {
+    pub fn new(es: u32, ws: u32) -> Self
+        ensures { λ r. ⌜ (r .es ≡ es) × (r .ws ≡ ws) ⌝ }
+    {
+        BlockingFirmwareState { es, ws }
+    }
+
+    // No swap is pending, so the running firmware is one to go back to.
+    fn verify_booted(self, state: &[u8]) -> bool
+        ensures { λ r. ⌜ r ≡ not (pending (self .ws) (now (state .entry))) ⌝ }
+    {
+        let found = state_area::read(state, self.ws as usize);
+        match found {
+            State::Swap => false,
+            State::Boot => true,
+            State::Revert => true,
+            State::DfuDetach => true,
+        }
+    }
+
+    pub fn get_state(self, state: &[u8]) -> Answer
+        ensures { λ r. ⌜ reported r ≡ report (getState (self .es) (self .ws) (now (state .entry))) 0 ⌝ }
+    {
+        let judged = geometry::state_verdict(self.es, self.ws, state.len());
+        if let Verdict::Refused(why) = judged {
+            return Answer::Refused(why);
+        }
+        Answer::Found(state_area::read(state, self.ws as usize), 0)
+    }
+
+    // The next boot swaps the images.
+    pub fn mark_updated(self, state: &mut [u8], budget: u32) -> Answer
+        ensures { λ r. ⌜ Did (mark State.Swap (self .es) (self .ws) (now (state .entry))) budget (flash [] [] (now (state .entry))) (flash [] [] (now (state .exit))) r ⌝ }
+    {
+        let judged = geometry::state_verdict(self.es, self.ws, state.len());
+        self.mark(state, State::Swap, judged, budget)
+    }
+
+    // The next boot starts the USB update.
+    pub fn mark_dfu(self, state: &mut [u8], budget: u32) -> Answer
+        ensures { λ r. ⌜ Did (mark State.DfuDetach (self .es) (self .ws) (now (state .entry))) budget (flash [] [] (now (state .entry))) (flash [] [] (now (state .exit))) r ⌝ }
+    {
+        let judged = geometry::state_verdict(self.es, self.ws, state.len());
+        self.mark(state, State::DfuDetach, judged, budget)
+    }
+
+    // The new firmware is confirmed: the next boot does not undo the swap.
+    pub fn mark_booted(self, state: &mut [u8], budget: u32) -> Answer
+        ensures { λ r. ⌜ Did (mark State.Boot (self .es) (self .ws) (now (state .entry))) budget (flash [] [] (now (state .entry))) (flash [] [] (now (state .exit))) r ⌝ }
+    {
+        let judged = geometry::state_verdict(self.es, self.ws, state.len());
+        self.mark(state, State::Boot, judged, budget)
+    }
+
+    // What the six calls that mark share: the refusal as it was judged, else the magic.
+    fn mark(self, state: &mut [u8], s: State, judged: Verdict, budget: u32) -> Answer
+        ensures { λ r. ⌜ ((c : Call) (es : ℕ) (a d : List ℕ) → verdict judged ≡ c .refusal → c .state ≡ none → c .ops ≡ setMagicOps es (self .ws) (magic s) (now (state .entry))
+            → Did c budget (flash a d (now (state .entry))) (flash a d (now (state .exit))) r) ⌝ }
+    {
+        if let Verdict::Refused(why) = judged {
+            return Answer::Refused(why);
+        }
+        let Flow::On(rest) = self.set_magic(state, s.magic(), Budget(budget)) else {
+            return Answer::Cut(budget);
+        };
+        Answer::Done(budget - rest.0)
+    }
+
+    // The magic and an erased area, by way of an invalid progress: a cut on the way leaves no progress that counts.
+    fn set_magic(self, state: &mut [u8], magic: u8, left: Budget) -> Flow
+        ensures { λ r. ⌜ ((es : ℕ) → InState (left .0) (setMagicOps es (self .ws) magic (now (state .entry))) (now (state .entry)) (now (state .exit)) r) ⌝ }
+    {
+        let ws = self.ws as usize;
+        if state_area::magic_is(state, ws, magic) {
+            return Flow::On(left);
+        }
+        if state_area::is_valid(state, ws) {
+            let Flow::On(rest) = state_area::invalidate(state, ws, left) else {
+                return Flow::Cut;
+            };
+            return state_area::renew(state, ws, magic, rest);
+        }
+        state_area::renew(state, ws, magic, left)
+    }
+}
