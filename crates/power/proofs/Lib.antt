@@ -1,0 +1,15 @@
+pub mod Bytes
+pub mod Pages
+pub mod Words
+pub mod Areas
+pub mod Erases
+pub mod Steps
+pub mod Way
+pub mod Tables
+pub mod Cuts
+pub mod Start
+pub mod Runs
+pub mod Swapped
+pub mod Reverted
+pub mod Proved
+pub mod Bench

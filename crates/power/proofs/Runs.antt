@@ -1,0 +1,105 @@
+-- Any number of cut runs: an invariant that one cut run keeps, with so many steps left, is kept by all of them, and the steps
+-- left fall by one a run if each budget pays for a step. Also what a run of prepare_boot is over its list of operations. Cited
+-- by Swapped, Reverted and Proved. Assumes nothing.
+use mathlib.Core.Path.{_≡_, refl, sym, ap, _∙_, subst}
+use mathlib.Core.Option.{some}
+use mathlib.Core.List.{List, [], _∷_}
+use Prim.Native.Nat.{ℕ, _+_, _≤_, _<_}
+use native.Mathlib.Nat.{lt-of-not-le}
+use native.Mathlib.Decide.{decLe}
+use native.Mathlib.Omega.{arith}
+use lib.ListN.{length, take}
+use Rattle.geometry.specs.declared.Geometry.{Geometry}
+use Rattle.geometry.specs.Refusals.{bootRefusal}
+use Rattle.mem_flash.specs.Flash.{Flash, Op, applyAll, after}
+use Rattle.rules.specs.StateArea.{readState}
+use Rattle.rules.specs.Calls.{Report}
+use Rattle.rules.specs.Boot.{bootOps, prepareBoot}
+use Rattle.rules.specs.Power.{stepCost}
+use Rattle.power.specs.Power.{answer, ran, Cut, runs, AllCut, AllAtLeast, AllBelow}
+use Rattle.power.proofs.Areas.{all-lengths}
+use Rattle.power.proofs.Cuts.{report-done, left-admitted, boot-rows, lawful}
+
+-- ---- one run
+
+-- the boot is not refused
+abbrev pub Admits : Geometry → Flash → Type 0
+Admits g f = bootRefusal g (length (f .active)) (length (f .dfu)) (length (f .state)) ≡ 0
+
+module _ (g : Geometry) (k : ℕ) (f : Flash) (a : Admits g f) where
+  -- nor is the next
+  admits-after : (os : List Op) → Admits g (after k os f)
+  unfolding after
+  admits-after os = let l = all-lengths (take k os) f in rw (l .active, l .dfu, l .state) a
+
+  pub ran-after : ran g k f ≡ after k (bootOps g f) f
+  unfolding ran prepareBoot
+  ran-after = left-admitted (prepareBoot g f) k f a
+
+  pub admits-ran : Admits g (ran g k f)
+  admits-ran = subst (Admits g) (sym ran-after) (admits-after (bootOps g f))
+
+  pub cut-short : Cut g k f → k < length (bootOps g f)
+  unfolding Cut answer prepareBoot
+  cut-short e = lawful (prepareBoot g f) (boot-rows g _ _ _) .cut k e .1
+
+  pub short-cut : k < length (bootOps g f) → Cut g k f
+  unfolding Cut answer prepareBoot
+  short-cut h = lawful (prepareBoot g f) (boot-rows g _ _ _) .cut-if k a h
+
+  pub whole-long : (Cut g k f → ⊥) → length (bootOps g f) ≤ k
+  whole-long n = go (decLe (length (bootOps g f)) k)
+    where
+      go : Dec (length (bootOps g f) ≤ k) → length (bootOps g f) ≤ k
+      go (yes h) = h
+      go (no h) = absurd (n (short-cut (lt-of-not-le h)))
+
+  pub answer-done : length (bootOps g f) ≤ k
+      → answer g k f ≡ record { number = 0; state = some (readState (g .ws) (f .state)); count = length (bootOps g f) }
+  unfolding answer prepareBoot
+  answer-done h = report-done (prepareBoot g f) k a h
+
+-- ---- any number of cut runs
+
+-- a run that is cut keeps the invariant, with no more steps left, and with fewer if it had a step's cost
+pub record Kept (g : Geometry) (Inv : Flash → ℕ → Type 0) (next : Flash) (k was : ℕ) : Type 0 where
+  pub rest : ℕ
+  pub inv : Inv next rest
+  pub fewer : rest ≤ was
+  pub gain : stepCost g ≤ k → rest < was
+  pub still : k < stepCost g → rest ≡ was
+
+-- and so do any number of them
+pub record Left (g : Geometry) (Inv : Flash → ℕ → Type 0) (next : Flash) (ks : List ℕ) (was : ℕ) : Type 0 where
+  pub admits : Admits g next
+  pub rest : ℕ
+  pub inv : Inv next rest
+  pub gain : AllAtLeast (stepCost g) ks → rest + length ks ≤ was
+
+module _ (g : Geometry) (Inv : Flash → ℕ → Type 0)
+    (step : (now : Flash) (was : ℕ) → Inv now was → (k : ℕ) → k < length (bootOps g now) → Kept g Inv
+    (after k (bootOps g now) now) k was) where
+  pub runs-left : (ks : List ℕ) (now : Flash) (was : ℕ) → Admits g now → Inv now was → AllCut g ks now
+      → Left g Inv (runs g ks now) ks was
+  unfolding runs AllCut AllAtLeast
+  runs-left [] now was a on cuts = record { admits = a; rest = was; inv = on; gain = λ x. omega arith }
+  runs-left (k ∷ ks) now was a on cuts =
+      let o = step now was on k (cut-short g k now a (cuts .0)) in
+      let r = runs-left ks (ran g k now) (o .rest) (admits-ran g k now a)
+      (subst (λ (x : Flash). Inv x (o .rest)) (sym (ran-after g k now a)) (o .inv)) (cuts .1) in
+      record { admits = r .admits; rest = r .rest; inv = r .inv; gain = λ x. omega (arith, r .gain (x .1), o .gain (x .0)) }
+
+  -- with fewer operations at each run none of them ends, and no step is gained
+  pub runs-stuck : ((now : Flash) (was : ℕ) → Inv now was → 0 < was → (k : ℕ) → k < stepCost g → k < length (bootOps g now))
+      → (ks : List ℕ) (now : Flash) (was : ℕ) → Admits g now → Inv now was → 0 < was → AllBelow (stepCost g) ks
+      → AllCut g ks now × Inv (runs g ks now) was
+  unfolding runs AllCut AllBelow
+  runs-stuck short [] now was a on more few = (tt, on)
+  runs-stuck short (k ∷ ks) now was a on more few =
+      let c = short now was on more k (few .0) in
+      let o = step now was on k c in
+      let i : Inv (ran g k now) was =
+      subst (λ (x : Flash). Inv x was) (sym (ran-after g k now a))
+      (subst (Inv (after k (bootOps g now) now)) (o .still (few .0)) (o .inv)) in
+      let r = runs-stuck short ks (ran g k now) was (admits-ran g k now a) i more (few .1) in
+      ((short-cut g k now a c, r .0), r .1)

@@ -1,0 +1,171 @@
+-- The tables at the start and at the end of a swap and of a revert are those that the statement names, and what the proofs take
+-- from an admitted geometry. Cited by Proved. Assumes nothing.
+use mathlib.Core.Path.{_≡_, sym, ap, ap₂, _∙_}
+use mathlib.Core.List.{List, [], _∷_, _++_, append-assoc, append-nil}
+use Prim.Native.Nat.{ℕ, zero, suc, _+_, _-_, _*_, _/_, _≤_, _<_, zero-le, suc-le-suc}
+use native.Mathlib.Nat.{zero-mul, one-mul, dvd-of-mod-eq-zero, dvd-trans, div-mul-cancel}
+use native.Mathlib.Omega.{arith}
+use lib.ListN.{length, take, drop, replicate, length-append, length-drop, take-append-drop, replicate-append-replicate, drop-of-length-le}
+use lib.Seq.{drop-at, length-take-le, take-all, drop-append-add, drop-append-le}
+use Rattle.state.specs.declared.State.the-variants.{Swap}
+use Rattle.state.specs.Magic.{erased, marked, magic}
+use Rattle.geometry.specs.declared.Geometry.{Geometry}
+use Rattle.geometry.specs.Geometry.{page, pages, words}
+use Rattle.geometry.specs.Refusals.{bootRefusal}
+use Rattle.geometry.proofs.Rows.{admitted}
+use Rattle.geometry.proofs.Tests.{even-times, page-some}
+use Rattle.mem_flash.specs.Flash.{Flash}
+use Rattle.rules.specs.Steps.{pageCount}
+use Rattle.rules.specs.Power.{magicArea, swapMarks, pageAt, withPage, stepCost}
+use Rattle.power.specs.Power.{Bytes}
+use Rattle.power.proofs.Bytes.{bytes-take, bytes-drop, bytes-append}
+use Rattle.power.proofs.Pages.{mix, pages-le, page-take, page-append-left, page-append-right}
+use Rattle.power.proofs.Words.{spread, marks, spread-append, spread-replicate}
+use Rattle.power.proofs.Tables.{Images}
+
+-- ---- the images: A of N pages of p bytes, D at least a page longer
+
+-- DFU after the swap: its first page, the old active image, and what lay behind
+unfoldable pub newDfu : ℕ → List ℕ → List ℕ → List ℕ
+newDfu p A D = take p D ++ (A ++ drop (p + length A) D)
+
+module _ (p N : ℕ) (A D : List ℕ) (some : 0 < p) (lengthA : length A ≡ N * p) (lengthD : N * p + p ≤ length D) where
+  first : length (take p D) ≡ p
+  first = length-take-le p D (omega arith)
+
+  pub images : Bytes A → Bytes D → Images p N A D (take (length A) D) (newDfu p A D)
+  unfolding newDfu
+  images hA hD =
+      let a : length (take (length A) D) ≡ length A = length-take-le (length A) D (omega arith) in
+      record {
+        some = some;
+        active = lengthA;
+        dfu = lengthD;
+        active-same = a;
+        dfu-same = simp (length-append, length-drop) (omega (arith, first));
+        active-bytes = hA;
+        dfu-bytes = hD;
+        active-bytes′ = bytes-take (length A) D hD;
+        dfu-bytes′ =
+            bytes-append (take p D) (A ++ drop (p + length A) D) (bytes-take p D hD)
+            (bytes-append A (drop (p + length A) D) hA (bytes-drop (p + length A) D hD));
+        active-page = λ k h. page-take p k (length A) D (omega (arith, pages-le p h));
+        dfu-page = λ k h.
+            page-append-right p (suc k) 1 k (take p D) (A ++ drop (p + length A) D) (first ∙ omega arith) (omega arith)
+            ∙ page-append-left p k A (drop (p + length A) D) (omega (arith, pages-le p h));
+      }
+
+  -- all of A
+  pub mix-all-active : (ys : List ℕ) → length ys ≡ length A → mix p N A ys ≡ A
+  unfolding mix
+  mix-all-active ys e =
+      ap₂ (λ (l r : List ℕ). l ++ r) (take-all (N * p) A (omega arith)) (drop-of-length-le ys {i = N * p} (omega arith))
+      ∙ append-nil A
+
+  -- what lies behind the pages of the swap is as it was
+  pub behind : drop (p + length A) (newDfu p A D) ≡ drop (p + length A) D
+  unfolding newDfu
+  behind =
+      ap (drop (p + length A)) (sym (append-assoc (take p D) A (drop (p + length A) D)))
+      ∙ drop-at (take p D ++ A) (drop (p + length A) D) (p + length A) (simp length-append (omega (arith, first)))
+
+  -- all of D, and its first page
+  pub mix-all-dfu : mix p (suc N) D (newDfu p A D) ≡ D
+  unfolding mix
+  mix-all-dfu =
+      let e : suc N * p ≡ p + length A = omega arith in
+      ap (λ (z : ℕ). take z D ++ drop z (newDfu p A D)) e
+      ∙ ap (λ (r : List ℕ). take (p + length A) D ++ r) behind ∙ take-append-drop (p + length A) D
+
+  pub mix-first : mix p 1 D (newDfu p A D) ≡ newDfu p A D
+  unfolding mix newDfu
+  mix-first =
+      ap (λ (z : ℕ). take z D ++ drop z (newDfu p A D)) (one-mul p)
+      ∙ ap (λ (r : List ℕ). take p D ++ r) (drop-at (take p D) (A ++ drop (p + length A) D) p first)
+
+  -- the old DFU but for page N
+  pub mix-reverted : 1 ≤ N → mix p N D (newDfu p A D) ≡ withPage p N (pageAt p (N - 1) A) D
+  unfolding mix newDfu withPage pageAt
+  mix-reverted more =
+      let k : ℕ = N - 1 in
+      let n : N ≡ suc k = omega arith in
+      let np : N * p ≡ suc k * p = ap (λ (z : ℕ). z * p) n in
+      let e : N * p ≡ length (take p D) + k * p = omega (arith, np, first) in
+      let q : p + length A ≡ N * p + p = omega arith in
+      let s : length (drop (k * p) A) ≤ p = simp length-drop (omega (arith, np)) in
+      ap (λ (r : List ℕ). take (N * p) D ++ r)
+      (ap (λ (z : ℕ). drop z (newDfu p A D)) e
+      ∙ drop-append-add (take p D) (A ++ drop (p + length A) D) (k * p)
+      ∙ drop-append-le (k * p) A (drop (p + length A) D) (omega (arith, np))
+      ∙ ap₂ (λ (l : List ℕ) (z : ℕ). l ++ drop z D) (sym (take-all p (drop (k * p) A) s)) q)
+
+-- none of xs
+pub mix-none : (p : ℕ) (xs ys : List ℕ) → mix p 0 xs ys ≡ ys
+unfolding mix
+mix-none p xs ys = ap (λ (z : ℕ). take z xs ++ drop z ys) (zero-mul p)
+
+-- ---- the state area, of 2 + t words
+
+pub fresh-marks : (w t : ℕ) → magicArea w Swap ((2 + t) * w) ≡ spread w (marks erased 0 (t - 0))
+unfolding magicArea spread marks
+fresh-marks w t =
+    let e : (2 + t) * w - w ≡ w + t * w = omega arith in
+    let z : t ≡ t - 0 = omega arith in
+    ap (λ (r : List ℕ). replicate w (magic Swap) ++ r)
+    (ap (λ (n : ℕ). replicate n erased) e ∙ sym (replicate-append-replicate w (t * w) erased)
+    ∙ ap (λ (r : List ℕ). replicate w erased ++ r)
+    (sym (spread-replicate w t erased) ∙ ap (λ (n : ℕ). spread w (replicate n erased)) z))
+
+pub swapped-marks : (w N t : ℕ) → 2 * N ≤ t → spread w (marks erased (2 * N) (t - 2 * N)) ≡ swapMarks w N ((2 + t) * w)
+unfolding swapMarks spread marks
+swapped-marks w N t h =
+    let u : ℕ = t - 2 * N in
+    let a : t ≡ 2 * N + u = omega arith in
+    let b : t * w ≡ (2 * N + u) * w = ap (λ (z : ℕ). z * w) a in
+    let e : u * w ≡ (2 + t) * w - (2 + 2 * N) * w = omega (arith, b) in
+    ap (λ (r : List ℕ). replicate w (magic Swap) ++ (replicate w erased ++ r))
+    (spread-append w (replicate (2 * N) marked) (replicate u erased)
+    ∙ ap₂ (λ (l r : List ℕ). l ++ r) (spread-replicate w (2 * N) marked)
+    (spread-replicate w u erased ∙ ap (λ (n : ℕ). replicate n erased) e))
+
+-- ---- an admitted geometry
+
+some-factor : (n b p : ℕ) → n * b ≡ p → 0 < p → 0 < n
+some-factor zero b p e h = absurd (omega (arith, zero-mul b))
+some-factor (suc n) b p e h = suc-le-suc zero-le
+
+-- N pages, a state area of 2 + t words with more than 4N marks, and the last three operations of a revert cost no more than a step
+pub record Sized (g : Geometry) (f : Flash) (t : ℕ) : Type 0 where
+  pub ws : 0 < g .ws
+  pub page-some : 0 < page g
+  pub cost : 3 ≤ stepCost g
+  pub whole : page g / g .b * g .b ≡ page g
+  pub active : length (f .active) ≡ pageCount g f * page g
+  pub dfu : pageCount g f * page g + page g ≤ length (f .dfu)
+  pub state : length (f .state) ≡ (2 + t) * g .ws
+  pub room : 4 * pageCount g f < t
+
+pub sized : (g : Geometry) (f : Flash) → bootRefusal g (length (f .active)) (length (f .dfu)) (length (f .state)) ≡ 0
+    → 4 * pageCount g f + 3 ≤ words (g .ws) (length (f .state)) → Sized g f (words (g .ws) (length (f .state)) - 2)
+unfolding pageCount pages words stepCost
+sized g f r room =
+    let a = admitted g (length (f .active)) (length (f .dfu)) (length (f .state)) r in
+    let p : 0 < page g = page-some g (a .numbers) in
+    let whole : page g / g .b * g .b ≡ page g = even-times (page g) (g .b) (a .page-b) in
+    let active : length (f .active) / page g * page g ≡ length (f .active) =
+    even-times (length (f .active)) (page g) (a .active-pages) in
+    let full : length (f .state) / g .ws * g .ws ≡ length (f .state) =
+    div-mul-cancel (g .ws) (dvd-trans (g .ws) (dvd-of-mod-eq-zero (g .ws) (a .unit-words))
+    (dvd-of-mod-eq-zero (g .es) (a .state-units))) in
+    let two : length (f .state) / g .ws ≡ 2 + (length (f .state) / g .ws - 2) = omega arith in
+    let chunks : 0 < page g / g .b = some-factor (page g / g .b) (g .b) (page g) whole p in
+    record {
+      ws = a .numbers .ws .some;
+      page-some = p;
+      cost = omega arith;
+      whole = whole;
+      active = sym active;
+      dfu = omega (arith, a .dfu-longer, active);
+      state = sym full ∙ ap (λ (n : ℕ). n * g .ws) two;
+      room = omega arith;
+    }

@@ -1,0 +1,3 @@
+pub mod Power
+pub mod Cuts
+pub mod Bench

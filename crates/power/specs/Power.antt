@@ -1,0 +1,120 @@
+-- Document 01, "What the power may do", and demand 3 of the mission: the statement. The tables are those of the crate
+-- `rules`, a run is a call of prepare_boot with a budget, and no step is run here. Proved in proofs/Proved. Assumes nothing.
+use mathlib.Core.Path.{_≡_}
+use mathlib.Core.Logic.{_⊎_}
+use mathlib.Core.Option.{some}
+use mathlib.Core.List.{List, [], _∷_}
+use Prim.Native.Nat.{ℕ, _+_, _*_, _≤_, _<_}
+use lib.ListN.{length, replicate}
+use Rattle.state.specs.declared.State.{State}
+use Rattle.state.specs.declared.State.the-variants.{Boot, Swap, Revert}
+use Rattle.geometry.specs.declared.Geometry.{Geometry}
+use Rattle.geometry.specs.Geometry.{words}
+use Rattle.geometry.specs.Refusals.{bootRefusal}
+use Rattle.mem_flash.specs.Flash.{Flash}
+use Rattle.rules.specs.StateArea.{progress}
+use Rattle.rules.specs.Steps.{pageCount}
+use Rattle.rules.specs.Calls.{Report, report, left}
+use Rattle.rules.specs.Boot.{prepareBoot}
+use Rattle.state.specs.Magic.{erased}
+use Rattle.rules.specs.Power.{magicArea, Fresh, swapTable, reverted, revertedErased, stepCost}
+
+-- ---- where the runs start
+
+-- every number of the list is a byte
+abbrev pub Bytes : List ℕ → Type 0
+Bytes [] = Unit {0}
+Bytes (x ∷ xs) = (x < 256) × Bytes xs
+
+-- the geometry is admitted, the areas hold bytes, and the state area is freshly marked for an update
+pub record Marked (g : Geometry) (f : Flash) : Type 0 where
+  pub admitted : bootRefusal g (length (f .active)) (length (f .dfu)) (length (f .state)) ≡ 0
+  pub active-bytes : Bytes (f .active)
+  pub dfu-bytes : Bytes (f .dfu)
+  pub fresh : Fresh g f
+
+-- and there are N pages, N at least 1, and 4N + 3 or more state words
+pub record Ready (g : Geometry) (f : Flash) : Type 0 where
+  pub marked : Marked g f
+  pub some-page : 1 ≤ pageCount g f
+  pub room : 4 * pageCount g f + 3 ≤ words (g .ws) (length (f .state))
+
+-- ---- runs
+
+-- what a run of prepare_boot with a budget of k answers, and the flash that it leaves
+unfoldable pub answer : Geometry → ℕ → Flash → Report
+answer g k f = report (prepareBoot g f) k
+
+unfoldable pub ran : Geometry → ℕ → Flash → Flash
+ran g k f = left (prepareBoot g f) k f
+
+-- the run is cut: it answers number 7
+unfoldable pub Cut : Geometry → ℕ → Flash → Type 0
+Cut g k f = answer g k f .number ≡ 7
+
+-- the flash after a run for each budget, one after the other
+unfoldable pub runs : Geometry → List ℕ → Flash → Flash
+runs g [] f = f
+runs g (k ∷ ks) f = runs g ks (ran g k f)
+
+-- each of these runs is cut
+unfoldable pub AllCut : Geometry → List ℕ → Flash → Type 0
+AllCut g [] f = Unit {0}
+AllCut g (k ∷ ks) f = Cut g k f × AllCut g ks (ran g k f)
+
+-- the runs of ks are cut, and the next one, with a budget of k, is not
+pub record FirstWhole (g : Geometry) (ks : List ℕ) (k : ℕ) (f : Flash) : Type 0 where
+  pub cuts : AllCut g ks f
+  pub whole : Cut g k (runs g ks f) → ⊥
+
+-- that next run is done with the state s, and leaves the flash h
+pub record Ends (g : Geometry) (ks : List ℕ) (k : ℕ) (f : Flash) (s : State) (h : Flash) : Type 0 where
+  pub number : answer g k (runs g ks f) .number ≡ 0
+  pub state : answer g k (runs g ks f) .state ≡ some s
+  pub flash : ran g k (runs g ks f) ≡ h
+
+-- every budget is n or more, and every budget is below n
+unfoldable pub AllAtLeast : ℕ → List ℕ → Type 0
+AllAtLeast n [] = Unit {0}
+AllAtLeast n (k ∷ ks) = (n ≤ k) × AllAtLeast n ks
+
+unfoldable pub AllBelow : ℕ → List ℕ → Type 0
+AllBelow n [] = Unit {0}
+AllBelow n (k ∷ ks) = (k < n) × AllBelow n ks
+
+-- ---- the promise
+
+-- cuts fell after the state's erase: the flash h has been reached, and the next run answers Boot with no operation
+pub record Rests (g : Geometry) (ks : List ℕ) (k : ℕ) (f h : Flash) : Type 0 where
+  pub reached : runs g ks f ≡ h
+  pub answers : answer g k (runs g ks f) ≡ record { number = 0; state = some Boot; count = 0 }
+  pub flash : ran g k (runs g ks f) ≡ h
+
+-- from the flash f, freshly marked: cut anywhere, any number of times
+pub record Power (g : Geometry) (f : Flash) : Type 0 where
+  -- the first run that is not cut leaves the swap table
+  pub swaps : (ks : List ℕ) (k : ℕ) → FirstWhole g ks k f → Ends g ks k f Swap (swapTable g f)
+  -- from there the first run that is not cut leaves the revert's images; the state area stays erased if the cuts left it so
+  pub reverts : (ks : List ℕ) (k : ℕ) → FirstWhole g ks k (swapTable g f)
+      → Ends g ks k (swapTable g f) Swap (reverted g f) ⊎ Rests g ks k (swapTable g f) (revertedErased g f)
+  -- with a step's cost at each run, the first that is not cut is at latest the 2N-th, and in the revert the (2N + 1)-th
+  pub swap-soon : (ks : List ℕ) → AllAtLeast (stepCost g) ks → AllCut g ks f → length ks < 2 * pageCount g f
+  pub revert-soon : (ks : List ℕ) → AllAtLeast (stepCost g) ks → AllCut g ks (swapTable g f) → length ks < 2 * pageCount g f + 1
+  -- with one operation less, always, every run is cut and no step is gained
+  pub swap-never : (ks : List ℕ) → AllBelow (stepCost g) ks → AllCut g ks f × (progress (g .ws) (runs g ks f .state) ≡ 0)
+  pub revert-never : (ks : List ℕ) → AllBelow (stepCost g) ks
+      → AllCut g ks (swapTable g f) × (progress (g .ws) (runs g ks (swapTable g f) .state) ≡ 2 * pageCount g f)
+
+-- ---- no pages: N = 0 counts as already swapped
+
+-- the flash with another state area
+abbrev pub restated : List ℕ → Flash → Flash
+restated st f = record { active = f .active; dfu = f .dfu; state = st }
+
+-- a freshly marked flash is the swap table; so the revert begins at once, in three operations, and touches no image
+pub record NoPages (g : Geometry) (f : Flash) : Type 0 where
+  pub swapped : swapTable g f ≡ f
+  pub three : (k : ℕ) → 3 ≤ k → answer g k f ≡ record { number = 0; state = some Swap; count = 3 }
+  pub reverts : (ks : List ℕ) (k : ℕ) → FirstWhole g ks k f
+      → Ends g ks k f Swap (restated (magicArea (g .ws) Revert (length (f .state))) f)
+      ⊎ Rests g ks k f (restated (replicate (length (f .state)) erased) f)
