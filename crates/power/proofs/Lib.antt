@@ -13,3 +13,4 @@ pub mod Swapped
 pub mod Reverted
 pub mod Proved
 pub mod Bench
+pub mod Counts
