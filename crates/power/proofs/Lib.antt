@@ -14,3 +14,4 @@ pub mod Reverted
 pub mod Proved
 pub mod Bench
 pub mod Counts
+pub mod Alike

@@ -203,7 +203,8 @@ progress-valid w some n r more =
 pub progress-void : (w : ℕ) → 0 < w → (n r : ℕ) → 0 < r → progress w (spread w (marks marked n r)) ≡ 2 + (n + r) - 3
 unfolding progress valid pick
 progress-void w some n r more =
-    rw (reads-valid w some marked n r more, throughout-other w erased marked some marked-not-erased, most-marks w some marked n r more)
+    let void : throughout erased (replicate w marked) ≡ false = throughout-other w erased marked some marked-not-erased in
+    rw (reads-valid w some marked n r more, void, most-marks w some marked n r more)
 
 replicate-snoc : (n x : ℕ) (zs : List ℕ) → replicate n x ++ (x ∷ zs) ≡ x ∷ (replicate n x ++ zs)
 replicate-snoc zero x zs = refl

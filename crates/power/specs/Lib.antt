@@ -1,3 +1,4 @@
 pub mod Power
 pub mod Cuts
 pub mod Bench
+pub mod Alike
