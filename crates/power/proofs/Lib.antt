@@ -15,3 +15,4 @@ pub mod Proved
 pub mod Bench
 pub mod Counts
 pub mod Alike
+pub mod ByPages

@@ -2,3 +2,4 @@ pub mod Power
 pub mod Cuts
 pub mod Bench
 pub mod Alike
+pub mod Pages
