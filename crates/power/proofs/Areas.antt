@@ -8,6 +8,7 @@ use lib.Seq.{take-append-le, take-append-add, take-all}
 use Rattle.mem_flash.specs.Flash.{Area, active, dfu, state, Flash, Op, erase, write, erasedAt, writtenAt, change, apply, applyAll, after}
 use Rattle.mem_flash.specs.Run.{placed}
 use Rattle.rules.specs.Steps.{sourceOf}
+use Rattle.power.specs.Inside.{areaOf}
 use Rattle.power.proofs.Bytes.{length-erased, length-written}
 
 -- ---- operations one after another, cut and whole
@@ -30,11 +31,6 @@ unfolding after
 after-all k os f h = ap (λ (l : List Op). applyAll l f) (take-all k os h)
 
 -- ---- one area of a flash
-
-unfoldable pub areaOf : Area → Flash → List ℕ
-areaOf active f = f .active
-areaOf dfu f = f .dfu
-areaOf state f = f .state
 
 pub placed-same : (a : Area) (f : Flash) → placed a (areaOf a f) f ≡ f
 unfolding placed change areaOf

@@ -1,14 +1,17 @@
--- Laws of an erase as a list of operations, for an area that may hold anything in the stretch: whole, cut, and counted. Every
+-- Laws of an erase as a list of operations, for an area that may hold anything in the stretch: whole, cut, counted and placed. Every
 -- other file knows an erase by these laws alone. Assumes nothing.
-use mathlib.Core.Path.{_≡_, refl, ap, _∙_}
+use mathlib.Core.Path.{_≡_, refl, ap, _∙_, subst}
 use mathlib.Core.List.{List, [], _∷_}
 use Prim.Native.Nat.{ℕ, zero, suc, _+_, _≤_}
 use native.Mathlib.Omega.{arith}
 use lib.ListN.{length, take}
 use lib.Seq.{take-nil}
+use Rattle.geometry.specs.declared.Geometry.{Geometry}
 use Rattle.mem_flash.specs.Flash.{Area, Flash, Op, erase, erasedAt, apply, applyAll, eraseOps}
 use Rattle.mem_flash.specs.Run.{placed}
 use Rattle.mem_flash.proofs.Runs.{erase-placed}
+use Rattle.rules.specs.Steps.{unitOf}
+use Rattle.power.specs.Inside.{areaOf, Aligned, AllWithin, none, one}
 use Rattle.power.proofs.Bytes.{Beside, beside-erased}
 
 -- now is f, but for what the n bytes from `at` on hold in the area a, where base is what f has there
@@ -40,3 +43,9 @@ module _ (unit : ℕ) (a : Area) (from n : ℕ) where
             ap (λ (os : List Op). applyAll os (apply (erase a from n) (placed a xs f))) (take-nil k) ∙ erase-placed a from n xs f;
         beside = beside-erased from n from n base xs (omega arith) (omega arith) fit b;
       }
+
+  -- from edge to edge of units, it is within the area
+  pub erase-within : (g : Geometry) (f : Flash) → unit ≡ unitOf g a → Aligned unit from n (length (areaOf a f))
+      → AllWithin g f (eraseOps unit a from n)
+  unfolding eraseOps
+  erase-within g f e w = one (subst (λ (u : ℕ). Aligned u from n (length (areaOf a f))) e w) none

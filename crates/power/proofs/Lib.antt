@@ -16,3 +16,4 @@ pub mod Bench
 pub mod Counts
 pub mod Alike
 pub mod ByPages
+pub mod Inside

@@ -17,8 +17,9 @@ use Rattle.rules.specs.StateArea.{markOp}
 use Rattle.rules.specs.Steps.{Copy, sourceOf, unitOf, chunkOps, fillOps, copyOps}
 use Rattle.rules.specs.Power.{pageAt, withPage, stepCost}
 use Rattle.power.specs.Power.{Bytes}
+use Rattle.power.specs.Inside.{areaOf}
 use Rattle.power.proofs.Bytes.{Beside, beside-refl, beside-erased, chunked, beside-chunked, filled}
-use Rattle.power.proofs.Areas.{apply-append, cut-first, cut-past, areaOf, placed-same, Image, source-placed}
+use Rattle.power.proofs.Areas.{apply-append, cut-first, cut-past, placed-same, Image, source-placed}
 use Rattle.power.proofs.Erases.{Held, erase-count, erase-whole, erase-cut}
 
 -- ---- the chunks of a copy

@@ -14,10 +14,11 @@ use Rattle.mem_flash.specs.Run.{placed}
 use Rattle.rules.specs.Steps.{Copy, toDfu, toActive, swapFrom, revertFrom, sourceOf, pageCount}
 use Rattle.rules.specs.Power.{pageAt, withPage}
 use Rattle.power.specs.Power.{Bytes}
+use Rattle.power.specs.Inside.{areaOf}
 use Rattle.power.proofs.Bytes.{bytes-take, bytes-drop, bytes-append}
 use Rattle.power.proofs.Pages.{mix, pages-le, length-mix, page-mix-left, page-mix-right, mix-up, mix-down}
 use Rattle.power.proofs.Words.{spread, marks, length-spread, length-marks, reads-swap, progress-valid, mark-next}
-use Rattle.power.proofs.Areas.{areaOf, flash-path}
+use Rattle.power.proofs.Areas.{flash-path}
 use Rattle.power.proofs.Steps.{stepped}
 use Rattle.power.proofs.Way.{Reads, Leg, Way}
 

@@ -3,3 +3,4 @@ pub mod Cuts
 pub mod Bench
 pub mod Alike
 pub mod Pages
+pub mod Inside
