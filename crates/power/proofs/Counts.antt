@@ -32,7 +32,7 @@ use Rattle.power.specs.Cuts.{EveryCount}
 use Rattle.power.proofs.Erases.{erase-count}
 use Rattle.power.proofs.Steps.{step-count}
 use Rattle.power.proofs.Tables.{swap-count, revert-count}
-use Rattle.power.proofs.Reverted.{finish-count}
+use Rattle.power.proofs.Finish.{finish-count}
 
 -- one of two lists
 pick-count : (b : Bool) (os ps : List Op) (n : ℕ) → length os ≤ n → length ps ≤ n → length (pick b os ps) ≤ n

@@ -4,6 +4,7 @@ pub mod Words
 pub mod Areas
 pub mod Erases
 pub mod Steps
+pub mod Finish
 pub mod Way
 pub mod Tables
 pub mod Cuts
@@ -17,3 +18,5 @@ pub mod Counts
 pub mod Alike
 pub mod ByPages
 pub mod Inside
+pub mod Marks
+pub mod Settled

@@ -26,12 +26,13 @@ use Rattle.rules.specs.Power.{magicArea, Fresh, swapMarks, swapTable, pageAt, w
 use Rattle.power.specs.Power.{Marked, Ready, answer, ran, Cut, runs, AllCut, FirstWhole, Ends, Rests, AllAtLeast, AllBelow, Power, restated, NoPages}
 use Rattle.power.proofs.Areas.{flash-path, all-lengths}
 use Rattle.power.proofs.Pages.{mix}
+use Rattle.power.proofs.Finish.{closed, finish-count}
 use Rattle.power.proofs.Way.{Reads, Way, On, here, on-found, close-refl}
 use Rattle.power.proofs.Tables.{Images, table, table-reads, swap-way, revert-way, swap-count, revert-count}
 use Rattle.power.proofs.Start.{newDfu, images, mix-all-active, mix-all-dfu, mix-none, mix-first, mix-reverted, fresh-marks, swapped-marks, Sized, sized}
 use Rattle.power.proofs.Runs.{Admits, ran-after, whole-long, answer-done, Kept, Left, runs-left, runs-stuck}
 use Rattle.power.proofs.Swapped.{boot-reverts, Swapping, swap-kept, swap-short, swap-at, swap-ends, swap-reads}
-use Rattle.power.proofs.Reverted.{copies-none, finish-count, closing, closed, Reverting, copying, Turning, revert-kept, revert-short, revert-at, revert-ends, closed-boot, boot-idle}
+use Rattle.power.proofs.Reverted.{copies-none, closing, Reverting, copying, Turning, revert-kept, revert-short, revert-at, revert-ends, closed-boot, boot-idle}
 
 -- a run that is not cut, in the words of the statement
 module _ (g : Geometry) (ks : List ℕ) (k : ℕ) (f : Flash) (a : Admits g (runs g ks f))

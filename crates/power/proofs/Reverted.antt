@@ -22,6 +22,7 @@ use Rattle.rules.specs.Power.{magicArea, stepCost}
 use Rattle.power.proofs.Bytes.{bytes-replicate, erased-within, written-erased}
 use Rattle.power.proofs.Words.{spread, marks, spread-replicate, length-spread, length-marks, word-spread, reads-swap, progress-void, erased-reads-boot, magic-byte, void-written}
 use Rattle.power.proofs.Areas.{apply-append, cut-first, cut-past, after-all, flash-path}
+use Rattle.power.proofs.Finish.{closed, closeOps, finish-close, invalidated, wiped, finished}
 use Rattle.power.proofs.Way.{Reads, Way, On, Found, on-found, on-end, Outcome, through, stopped, run-on, copies-skip}
 use Rattle.power.proofs.Tables.{revert-steps, revert-count}
 use Rattle.power.proofs.Runs.{Kept}
@@ -37,59 +38,21 @@ copies-none g f (suc j) k i h =
     ∙ copies-skip g (toActive (i + 1) (k + 1) k) (revertFrom j (k + 1) (i + 2)) f (omega arith)
     ∙ copies-none g f j (k + 1) (i + 2) (omega arith)
 
--- ---- the last three operations, on a state area of 2 + t words
-
--- the images A and R with the state area st
-unfoldable pub closed : List ℕ → List ℕ → List ℕ → Flash
-closed A R st = record { active = A; dfu = R; state = st }
+-- ---- the end of the revert, on a state area of 2 + t words
 
 -- n marks are done, and the validity word holds v
 unfoldable pub closing : Geometry → List ℕ → List ℕ → ℕ → ℕ → ℕ → Flash
 closing g A R t n v = closed A R (spread (g .ws) (marks v n (t - n)))
 
--- the three operations, for a state area of S bytes
-unfoldable closeOps : Geometry → ℕ → List Op
-closeOps g S = invalidateOp (g .ws) ∷ erase state 0 S ∷ magicOp (g .ws) (magic Revert) ∷ []
-
-finish-close : (g : Geometry) (f : Flash) (S : ℕ) → length (f .state) ≡ S → finishOps g f ≡ closeOps g S
-unfolding finishOps renewOps eraseOps closeOps
-finish-close g f S e = ap (closeOps g) e
-
-pub finish-count : (g : Geometry) (f : Flash) → length (finishOps g f) ≡ 3
-unfolding closeOps
-finish-count g f = ap length (finish-close g f (length (f .state)) refl)
-
 module _ (g : Geometry) (A R : List ℕ) (t n : ℕ) (h : n < t) where
-  invalidated : (v : ℕ) → apply (invalidateOp (g .ws)) (closing g A R t n v) ≡ closing g A R t n marked
-  unfolding invalidateOp apply change closing closed
-  invalidated v = flash-path refl refl (void-written (g .ws) v n (t - n))
+  voids : (v : ℕ) → apply (invalidateOp (g .ws)) (closing g A R t n v) ≡ closing g A R t n marked
+  unfolding closing
+  voids v = invalidated A R (g .ws) (spread (g .ws) (marks v n (t - n))) ∙ ap (closed A R) (void-written (g .ws) v n (t - n))
 
   state-size : (v : ℕ) → length (spread (g .ws) (marks v n (t - n))) ≡ (2 + t) * g .ws
   state-size v =
       let e : length (marks v n (t - n)) ≡ 2 + t = omega (arith, length-marks v n (t - n)) in
       length-spread (g .ws) (marks v n (t - n)) ∙ ap (λ (z : ℕ). z * g .ws) e
-
-  wiped : apply (erase state 0 ((2 + t) * g .ws)) (closing g A R t n marked) ≡ closed A R (replicate ((2 + t) * g .ws) erased)
-  unfolding apply change closing closed
-  wiped =
-      flash-path refl refl
-      (erased-within 0 ((2 + t) * g .ws) (spread (g .ws) (marks marked n (t - n))) (omega (arith, state-size marked))
-      ∙ ap (λ (l : List ℕ). replicate ((2 + t) * g .ws) erased ++ l)
-      (drop-of-length-le (spread (g .ws) (marks marked n (t - n))) {i = 0 + (2 + t) * g .ws} (omega (arith, state-size marked)))
-      ∙ append-nil (replicate ((2 + t) * g .ws) erased))
-
-  signed : apply (magicOp (g .ws) (magic Revert)) (closed A R (replicate ((2 + t) * g .ws) erased))
-      ≡ closed A R (magicArea (g .ws) Revert ((2 + t) * g .ws))
-  unfolding magicOp apply change closed magicArea
-  signed =
-      let r : ℕ = (2 + t) * g .ws - g .ws in
-      let e : (2 + t) * g .ws ≡ g .ws + r = omega arith in
-      flash-path refl refl
-      (ap (writtenAt 0 (replicate (g .ws) (magic Revert)))
-      (ap (λ (z : ℕ). replicate z erased) e ∙ sym (replicate-append-replicate (g .ws) r erased))
-      ∙ written-erased [] (replicate (g .ws) (magic Revert)) (replicate r erased) 0 (g .ws) refl
-      (length-replicate (g .ws) (magic Revert))
-      (bytes-replicate (g .ws) (magic Revert) (magic-byte Revert)))
 
 -- an erased state area reads Boot, and nothing is wanted
 reads-boot : (w t : ℕ) → 0 < w → readState w (replicate ((2 + t) * w) erased) ≡ Boot
@@ -156,19 +119,18 @@ module _ (g : Geometry) (whole : page g / g .b * g .b ≡ page g) (cost : 3 ≤ 
   -- the last three operations, from a validity word that holds v: cut, and whole
   close-cut : (v : ℕ) → Turning (closing g A R t (4 * N) v) 0 → (j : ℕ) → j < 3
       → Turning (applyAll (take j (closeOps g S)) (closing g A R t (4 * N) v)) 0
-  unfolding applyAll closeOps
+  unfolding applyAll closeOps closing
   close-cut v on zero less = on
-  close-cut v on (suc zero) less = voided (invalidated g A R t (4 * N) room v)
+  close-cut v on (suc zero) less = voided (voids g A R t (4 * N) room v)
   close-cut v on (suc (suc zero)) less =
-      emptied (ap (apply (erase state 0 S)) (invalidated g A R t (4 * N) room v) ∙ wiped g A R t (4 * N) room)
+      emptied
+      (ap (apply (erase state 0 S)) (voids g A R t (4 * N) room v)
+      ∙ wiped A R S (spread (g .ws) (marks marked (4 * N) (t - 4 * N))) (state-size g A R t (4 * N) room marked))
   close-cut v on (suc (suc (suc j))) less = absurd (omega arith)
 
   close-all : (v : ℕ) → applyAll (closeOps g S) (closing g A R t (4 * N) v) ≡ done
-  unfolding applyAll closeOps
-  close-all v =
-      ap (λ (x : Flash). apply (magicOp (g .ws) (magic Revert)) (apply (erase state 0 S) x)) (invalidated g A R t (4 * N) room v)
-      ∙ ap (apply (magicOp (g .ws) (magic Revert))) (wiped g A R t (4 * N) room)
-      ∙ signed g A R t (4 * N) room
+  unfolding closing
+  close-all v = finished A R g S (spread (g .ws) (marks v (4 * N) (t - 4 * N))) (state-size g A R t (4 * N) room v) (omega arith)
 
   -- the steps that were left, then the last three operations
   tail-run : (v : ℕ) → Turning (closing g A R t (4 * N) v) 0 → (now : Flash) (rest k : ℕ) (os : List Op) → length os ≤ k

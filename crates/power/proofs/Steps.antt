@@ -49,6 +49,15 @@ chunks-cut (suc j) (suc n) a at from b source h =
 
 -- ---- a page filled
 
+pub fill-placed : (unit p b at from : ℕ) (a : Area) (source ys : List ℕ) (f : Flash)
+    → applyAll (fillOps unit p b at from source a) (placed a ys f)
+    ≡ placed a (chunked (p / b) at from b source (erasedAt at p ys)) f
+unfolding fillOps
+fill-placed unit p b at from a source ys f =
+    apply-append (eraseOps unit a at p) (chunkOps (p / b) a at from b source) (placed a ys f)
+    ∙ ap (applyAll (chunkOps (p / b) a at from b source)) (erase-whole unit a at p ys f)
+    ∙ chunks-placed (p / b) a at from b source (erasedAt at p ys) f
+
 module _ (unit p b at from : ℕ) (a : Area) (source base ys : List ℕ) (f : Flash)
     (whole : p / b * b ≡ p) (fit : at + p ≤ length base) (near : Beside at p base ys) where
   abbrev erases : List Op
@@ -64,11 +73,8 @@ module _ (unit p b at from : ℕ) (a : Area) (source base ys : List ℕ) (f : Fl
   fill-whole : Bytes source → from + p ≤ length source
       → applyAll (fillOps unit p b at from source a) (placed a ys f)
       ≡ placed a (take at base ++ (take p (drop from source) ++ drop (at + p) base)) f
-  unfolding fillOps
   fill-whole bytes inside =
-      apply-append erases chunks (placed a ys f)
-      ∙ ap (applyAll chunks) (erase-whole unit a at p ys f)
-      ∙ chunks-placed (p / b) a at from b source (erasedAt at p ys) f
+      fill-placed unit p b at from a source ys f
       ∙ ap (λ (l : List ℕ). placed a l f) (filled (p / b) at from b p source base ys whole bytes inside fit near)
 
   fill-cut : (k : ℕ) → k ≤ p / b + 1 → Held at p a base f (applyAll (take k (fillOps unit p b at from source a)) (placed a ys f))

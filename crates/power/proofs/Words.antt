@@ -101,7 +101,7 @@ unfolding holds pick
 holds-same zero b h = absurd (not-suc-le-zero h)
 holds-same (suc n) b h = rw (eq-eqb b b refl)
 
-holds-other : (n b x : ℕ) → x ≢ b → holds b (replicate n x) ≡ false
+pub holds-other : (n b x : ℕ) → x ≢ b → holds b (replicate n x) ≡ false
 unfolding holds pick
 holds-other zero b x d = refl
 holds-other (suc n) b x d = rw (ne-eqb x b d) (holds-other n b x d)
@@ -121,6 +121,15 @@ erased-reads-boot w h =
   where
     no-magic : (s : State) → throughout (magic s) (replicate w erased) ≡ false
     no-magic s = throughout-other w (magic s) erased h (erased-no-magic s)
+
+-- and a word of the Revert magic reads Revert
+revert-no-swap : magic Revert ≢ magic Swap
+unfolding magic
+revert-no-swap e = omega arith
+
+pub revert-reads : (w : ℕ) → 0 < w → stateOf (replicate w (magic Revert)) ≡ Revert
+unfolding stateOf pick
+revert-reads w h = rw (throughout-other w (magic Swap) (magic Revert) h revert-no-swap, throughout-same w (magic Revert))
 
 -- every magic is a byte
 pub magic-byte : (s : State) → magic s < 256

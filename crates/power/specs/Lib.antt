@@ -4,3 +4,4 @@ pub mod Bench
 pub mod Alike
 pub mod Pages
 pub mod Inside
+pub mod Settles

@@ -1,0 +1,69 @@
+-- The three operations that end a revert, on a state area that may hold anything: invalidate, erase the state area, write the
+-- magic. Cited by Reverted, Proved, Counts and Settled. Assumes nothing.
+use mathlib.Core.Path.{_≡_, refl, sym, ap, _∙_}
+use mathlib.Core.List.{List, [], _∷_, _++_, append-nil}
+use Prim.Native.Nat.{ℕ, _+_, _-_, _≤_}
+use native.Mathlib.Omega.{arith}
+use lib.ListN.{length, drop, replicate, length-replicate, replicate-append-replicate, drop-of-length-le}
+use Rattle.state.specs.declared.State.the-variants.{Revert}
+use Rattle.state.specs.Magic.{erased, marked, magic}
+use Rattle.geometry.specs.declared.Geometry.{Geometry}
+use Rattle.mem_flash.specs.Flash.{state, Flash, Op, erase, writtenAt, change, apply, applyAll, eraseOps}
+use Rattle.rules.specs.StateArea.{invalidateOp, magicOp}
+use Rattle.rules.specs.Boot.{renewOps, finishOps}
+use Rattle.rules.specs.Power.{magicArea}
+use Rattle.power.proofs.Bytes.{bytes-replicate, erased-within, written-erased, length-written}
+use Rattle.power.proofs.Words.{magic-byte}
+use Rattle.power.proofs.Areas.{flash-path}
+
+-- the images A and R with the state area st
+unfoldable pub closed : List ℕ → List ℕ → List ℕ → Flash
+closed A R st = record { active = A; dfu = R; state = st }
+
+-- the three operations, for a state area of S bytes
+unfoldable pub closeOps : Geometry → ℕ → List Op
+closeOps g S = invalidateOp (g .ws) ∷ erase state 0 S ∷ magicOp (g .ws) (magic Revert) ∷ []
+
+pub finish-close : (g : Geometry) (f : Flash) (S : ℕ) → length (f .state) ≡ S → finishOps g f ≡ closeOps g S
+unfolding finishOps renewOps eraseOps closeOps
+finish-close g f S e = ap (closeOps g) e
+
+pub finish-count : (g : Geometry) (f : Flash) → length (finishOps g f) ≡ 3
+unfolding closeOps
+finish-count g f = ap length (finish-close g f (length (f .state)) refl)
+
+module _ (A R : List ℕ) where
+  pub invalidated : (w : ℕ) (st : List ℕ)
+      → apply (invalidateOp w) (closed A R st) ≡ closed A R (writtenAt w (replicate w marked) st)
+  unfolding invalidateOp apply change closed
+  invalidated w st = refl
+
+  pub wiped : (n : ℕ) (st : List ℕ) → length st ≡ n → apply (erase state 0 n) (closed A R st) ≡ closed A R (replicate n erased)
+  unfolding apply change closed
+  wiped n st e =
+      flash-path refl refl
+      (erased-within 0 n st (omega arith)
+      ∙ ap (λ (l : List ℕ). replicate n erased ++ l) (drop-of-length-le st {i = 0 + n} (omega arith))
+      ∙ append-nil (replicate n erased))
+
+  pub signed : (w n : ℕ) → w ≤ n
+      → apply (magicOp w (magic Revert)) (closed A R (replicate n erased)) ≡ closed A R (magicArea w Revert n)
+  unfolding magicOp apply change closed magicArea
+  signed w n h =
+      let r : ℕ = n - w in
+      let e : n ≡ w + r = omega arith in
+      flash-path refl refl
+      (ap (writtenAt 0 (replicate w (magic Revert)))
+      (ap (λ (z : ℕ). replicate z erased) e ∙ sym (replicate-append-replicate w r erased))
+      ∙ written-erased [] (replicate w (magic Revert)) (replicate r erased) 0 w refl (length-replicate w (magic Revert))
+      (bytes-replicate w (magic Revert) (magic-byte Revert)))
+
+  -- all three
+  pub finished : (g : Geometry) (n : ℕ) (st : List ℕ) → length st ≡ n → g .ws ≤ n
+      → applyAll (closeOps g n) (closed A R st) ≡ closed A R (magicArea (g .ws) Revert n)
+  unfolding applyAll closeOps
+  finished g n st e h =
+      ap (λ (x : Flash). apply (magicOp (g .ws) (magic Revert)) (apply (erase state 0 n) x)) (invalidated (g .ws) st)
+      ∙ ap (apply (magicOp (g .ws) (magic Revert)))
+      (wiped n (writtenAt (g .ws) (replicate (g .ws) marked) st) (length-written (g .ws) (replicate (g .ws) marked) st ∙ e))
+      ∙ signed (g .ws) n h

@@ -1,0 +1,259 @@
+-- Of three boots in a row that are not cut, the third does nothing (specs/Settles): `settles`. A swap leaves a progress of 2N or
+-- more, a revert leaves the Revert magic, and every other state wants nothing. Assumes nothing.
+use mathlib.Core.Path.{_≡_, refl, sym, ap, ap₂, _∙_, subst}
+use mathlib.Core.Bool.{Bool, true, false}
+use mathlib.Core.Option.{some}
+use mathlib.Core.Logic.{_⊎_, inl, inr}
+use mathlib.Core.List.{List, [], _∷_, _++_}
+use Prim.Native.Nat.{ℕ, zero, suc, _+_, _-_, _*_, _/_, _≤_, _<_, zero-le}
+use native.Mathlib.Nat.{zero-mul, eq-or-lt-of-le, lt-of-not-le, mul-le-mul-right, div-mul-le-self}
+use native.Mathlib.Decide.{decLe}
+use native.Mathlib.Omega.{arith}
+use lib.ListN.{length, take, drop, replicate, length-replicate}
+use lib.Seq.{take-at, take-nil}
+use Rattle.state.specs.declared.State.{State}
+use Rattle.state.specs.declared.State.the-variants.{Boot, Swap, Revert, DfuDetach}
+use Rattle.state.specs.Magic.{erased, marked, magic, stateOf}
+use Rattle.geometry.specs.declared.Geometry.{Geometry}
+use Rattle.geometry.specs.Geometry.{page, pages, words}
+use Rattle.geometry.specs.Refusals.{bootWords}
+use Rattle.geometry.proofs.Rows.{admitted}
+use Rattle.mem_flash.specs.Flash.{Area, active, dfu, state, Flash, Op, erasedAt, writtenAt, change, apply, applyAll, after}
+use Rattle.mem_flash.specs.Run.{placed}
+use Rattle.rules.specs.StateArea.{word, readState, mostMarks, progress, markOp}
+use Rattle.rules.specs.Steps.{Copy, toDfu, toActive, swapFrom, revertFrom, sourceOf, unitOf, fillOps, copyOps, onceOps, copiesOps, pageCount}
+use Rattle.rules.specs.Calls.{Report}
+use Rattle.rules.specs.Boot.{finishOps, bootOpsIn, bootOps, prepareBoot}
+use Rattle.rules.specs.Power.{magicArea}
+use Rattle.power.specs.Power.{answer, ran, Cut, runs}
+use Rattle.power.specs.Inside.{areaOf}
+use Rattle.power.specs.Settles.{Quiet, Settles}
+use Rattle.power.proofs.Bytes.{chunked}
+use Rattle.power.proofs.Words.{revert-reads}
+use Rattle.power.proofs.Marks.{withMark, same-state, mark-passes}
+use Rattle.power.proofs.Areas.{apply-append, after-all, placed-same, Image, state-placed, SameLengths, all-lengths}
+use Rattle.power.proofs.Steps.{fill-placed}
+use Rattle.power.proofs.Finish.{closed, closeOps, finish-close, finished}
+use Rattle.power.proofs.Way.{Reads, once-skip, once-do}
+use Rattle.power.proofs.Tables.{swap-count}
+use Rattle.power.proofs.Runs.{Admits, ran-after, admits-ran, whole-long, answer-done}
+use Rattle.power.proofs.Swapped.{boot-swaps, boot-reverts}
+
+-- ---- the state area after the swap's steps
+
+-- a whole step leaves the state area with its mark
+step-state : (g : Geometry) (c : Copy) (f : Flash) → Image (c .to)
+    → applyAll (copyOps g c f) f .state ≡ withMark (g .ws) (c .mark) (f .state)
+unfolding copyOps applyAll apply markOp change withMark
+step-state g c f i =
+    ap (λ (x : Flash). x .state)
+    (apply-append fills marks f
+    ∙ ap (applyAll marks)
+    (ap (applyAll fills) (sym (placed-same (c .to) f))
+    ∙ fill-placed (unitOf g (c .to)) (page g) (g .b) (c .target * page g) (c .source * page g) (c .to) (sourceOf (c .to) f)
+    (areaOf (c .to) f) f))
+    ∙ ap (writtenAt ((2 + c .mark) * g .ws) (replicate (g .ws) marked)) (state-placed (c .to) left f i)
+  where
+    fills : List Op
+    fills = fillOps (unitOf g (c .to)) (page g) (g .b) (c .target * page g) (c .source * page g) (sourceOf (c .to) f) (c .to)
+
+    marks : List Op
+    marks = markOp (g .ws) (c .mark) ∷ []
+
+    left : List ℕ
+    left =
+        chunked (page g / g .b) (c .target * page g) (c .source * page g) (g .b) (sourceOf (c .to) f)
+        (erasedAt (c .target * page g) (page g) (areaOf (c .to) f))
+
+-- the state area st′ reads as st does, and its progress is i or more
+record Past (w : ℕ) (st st′ : List ℕ) (i : ℕ) : Type 0 where
+  same : readState w st′ ≡ readState w st
+  size : length st′ ≡ length st
+  past : i ≤ progress w st′
+
+once-past : (g : Geometry) (c : Copy) (f : Flash) → Image (c .to) → c .mark ≤ progress (g .ws) (f .state)
+    → c .mark < mostMarks (g .ws) (f .state) → Past (g .ws) (f .state) (applyAll (onceOps g c f) f .state) (suc (c .mark))
+unfolding applyAll
+once-past g c f i h m = go (eq-or-lt-of-le h)
+  where
+    go : (c .mark ≡ progress (g .ws) (f .state)) ⊎ (c .mark < progress (g .ws) (f .state))
+        → Past (g .ws) (f .state) (applyAll (onceOps g c f) f .state) (suc (c .mark))
+    go (inl e) =
+        let d : applyAll (onceOps g c f) f .state ≡ withMark (g .ws) (c .mark) (f .state) =
+        ap (λ (os : List Op). applyAll os f .state) (once-do g c f (omega (arith, e))) ∙ step-state g c f i in
+        record {
+          same = ap (readState (g .ws)) d ∙ same-state (g .ws) (c .mark) (f .state);
+          size = all-lengths (onceOps g c f) f .state;
+          past = rw d (mark-passes (g .ws) (c .mark) (f .state) m (sym e));
+        }
+    go (inr l) =
+        let d : applyAll (onceOps g c f) f .state ≡ f .state = ap (λ (os : List Op). applyAll os f .state) (once-skip g c f l) in
+        record { same = ap (readState (g .ws)) d; size = ap length d; past = rw d l }
+
+-- steps on the images, numbered from i on
+abbrev Row : ℕ → List Copy → Type 0
+Row i [] = Unit {0}
+Row i (c ∷ cs) = Image (c .to) × (c .mark ≡ i) × Row (suc i) cs
+
+swap-row : (k i : ℕ) → Row i (swapFrom k i)
+unfolding swapFrom toDfu toActive
+swap-row zero i = tt
+swap-row (suc k) i =
+    (tt, refl, (tt, omega arith, subst (λ (n : ℕ). Row n (swapFrom k (i + 2))) (omega arith) (swap-row k (i + 2))))
+
+row-past : (g : Geometry) (cs : List Copy) (i : ℕ) (f : Flash) → Row i cs → i ≤ progress (g .ws) (f .state)
+    → i + length cs ≤ mostMarks (g .ws) (f .state)
+    → Past (g .ws) (f .state) (applyAll (copiesOps g cs f) f .state) (i + length cs)
+unfolding copiesOps applyAll mostMarks
+row-past g [] i f r h m = record { same = refl; size = refl; past = omega arith }
+row-past g (c ∷ cs) i f r h m =
+    let e : c .mark ≡ i = r .1 in
+    let o = once-past g c f (r .0) (omega arith) (omega arith) in
+    let next : Flash = applyAll (onceOps g c f) f in
+    let z : words (g .ws) (length (next .state)) ≡ words (g .ws) (length (f .state)) = ap (words (g .ws)) (o .size) in
+    let q = row-past g cs (suc i) next (r .2) (omega (arith, o .past)) (omega arith) in
+    let d : applyAll (copiesOps g (c ∷ cs) f) f .state ≡ applyAll (copiesOps g cs next) next .state =
+    ap (λ (x : Flash). x .state) (apply-append (onceOps g c f) (copiesOps g cs next) f) in
+    record {
+      same = ap (readState (g .ws)) d ∙ q .same ∙ o .same;
+      size = ap length d ∙ q .size ∙ o .size;
+      past = rw d (omega (arith, q .past));
+    }
+
+-- a state area with the Revert magic reads Revert
+area-reads : (w n : ℕ) → 0 < w → readState w (magicArea w Revert n) ≡ Revert
+unfolding readState word magicArea
+area-reads w n more =
+    ap (λ (i : ℕ). stateOf (take w (drop i (replicate w (magic Revert) ++ replicate (n - w) erased)))) (zero-mul w)
+    ∙ ap stateOf (take-at (replicate w (magic Revert)) (replicate (n - w) erased) w (length-replicate w (magic Revert)))
+    ∙ revert-reads w more
+
+-- ---- one run
+
+module _ (g : Geometry) (f : Flash) (a : Admits g f) where
+  abbrev N : ℕ
+  N = pageCount g f
+
+  enough : bootWords N ≤ words (g .ws) (length (f .state))
+  unfolding pageCount
+  enough = admitted g (length (f .active)) (length (f .dfu)) (length (f .state)) a .state-words
+
+  some-word : 0 < g .ws
+  some-word = admitted g (length (f .active)) (length (f .dfu)) (length (f .state)) a .numbers .ws .some
+
+  module _ (swap : readState (g .ws) (f .state) ≡ Swap) where
+    reads : Reads g N (length (f .state)) (progress (g .ws) (f .state)) f
+    reads = record { swap = swap; paged = refl; sized = refl; done = refl }
+
+    -- a swap that is through: the next boot will revert
+    swap-through : progress (g .ws) (f .state) < 2 * N → Past (g .ws) (f .state) (applyAll (bootOps g f) f .state) (2 * N)
+    unfolding bootWords mostMarks
+    swap-through h =
+        let n : length (swapFrom N 0) ≡ 2 * N = swap-count N 0 in
+        let p = row-past g (swapFrom N 0) 0 f (swap-row N 0) zero-le (omega (arith, enough)) in
+        let d : bootOps g f ≡ copiesOps g (swapFrom N 0) f =
+        boot-swaps g N (length (f .state)) (progress (g .ws) (f .state)) f reads h in
+        subst (λ (os : List Op). Past (g .ws) (f .state) (applyAll os f .state) (2 * N)) (sym d)
+        (record { same = p .same; size = p .size; past = omega (arith, p .past) })
+
+    -- a revert that is through: the state area reads Revert
+    revert-through : 2 * N ≤ progress (g .ws) (f .state) → readState (g .ws) (applyAll (bootOps g f) f .state) ≡ Revert
+    unfolding closed bootWords words
+    revert-through h =
+        let copies : List Op = copiesOps g (revertFrom N 0 (2 * N)) f in
+        let n : ℕ = length (f .state) in
+        let x : Flash = applyAll copies f in
+        let d : bootOps g f ≡ copies ++ closeOps g n =
+        boot-reverts g N n (progress (g .ws) (f .state)) f reads h
+        ∙ ap (λ (os : List Op). copies ++ os) (finish-close g f n refl) in
+        let fit : g .ws ≤ n =
+        omega (
+          arith,
+          enough,
+          mul-le-mul-right {m = 3} {n = n / g .ws} (g .ws) (omega (arith, enough)),
+          div-mul-le-self n
+              (g .ws),
+        ) in
+        ap (λ (os : List Op). readState (g .ws) (applyAll os f .state)) d
+        ∙ ap (λ (y : Flash). readState (g .ws) (y .state))
+        (apply-append copies (closeOps g n) f ∙ finished (x .active) (x .dfu) g n (x .state) (all-lengths copies f .state) fit)
+        ∙ area-reads (g .ws) n some-word
+
+  -- ---- runs that are not cut
+
+  -- where nothing is wanted, nothing is done
+  quiet : bootOps g f ≡ [] → Quiet g f
+  unfolding after applyAll
+  quiet e =
+      record {
+        done = λ k. ap (λ (t : Report). t .number) (idle k);
+        count = λ k. ap (λ (t : Report). t .count) (idle k) ∙ ap length e;
+        flash = λ k.
+            ran-after g k f a ∙ ap (λ (os : List Op). after k os f) e
+            ∙ ap (λ (os : List Op). applyAll os f) (take-nil {A = Op} k);
+      }
+    where
+      idle : (k : ℕ) → answer g k f
+          ≡ record { number = 0; state = some (readState (g .ws) (f .state)); count = length (bootOps g f) }
+      idle k = answer-done g k f a (rw e zero-le)
+
+  -- a run that is not cut does all
+  ran-all : (k : ℕ) → (Cut g k f → ⊥) → ran g k f ≡ applyAll (bootOps g f) f
+  ran-all k w = ran-after g k f a ∙ after-all k (bootOps g f) f (whole-long g k f a w)
+
+  -- every state but Swap wants nothing
+  swap-or-idle : (readState (g .ws) (f .state) ≡ Swap) ⊎ (bootOps g f ≡ [])
+  unfolding bootOps bootOpsIn
+  swap-or-idle = go (readState (g .ws) (f .state)) refl
+    where
+      go : (s : State) → readState (g .ws) (f .state) ≡ s → (readState (g .ws) (f .state) ≡ Swap) ⊎ (bootOpsIn s g f ≡ [])
+      go Boot e = inr refl
+      go Swap e = inl e
+      go Revert e = inr refl
+      go DfuDetach e = inr refl
+
+-- a state area that reads Revert wants nothing
+revert-idle : (g : Geometry) (f : Flash) → readState (g .ws) (f .state) ≡ Revert → bootOps g f ≡ []
+unfolding bootOps bootOpsIn
+revert-idle g f e = ap (λ (s : State). bootOpsIn s g f) e
+
+-- once quiet, quiet after one more run
+still : (g : Geometry) (f : Flash) (k : ℕ) → Quiet g f → Quiet g (ran g k f)
+still g f k q = subst (Quiet g) (sym (q .flash k)) q
+
+-- where a revert is due, one run is enough
+settles-once : (g : Geometry) (f : Flash) → Admits g f → readState (g .ws) (f .state) ≡ Swap
+    → 2 * pageCount g f ≤ progress (g .ws) (f .state) → (k : ℕ) → (Cut g k f → ⊥) → Quiet g (ran g k f)
+settles-once g f a swap h k w =
+    quiet g (ran g k f) (admits-ran g k f a)
+    (revert-idle g (ran g k f)
+    (ap (λ (x : Flash). readState (g .ws) (x .state)) (ran-all g f a k w) ∙ revert-through g f a swap h))
+
+-- and where a swap is due, two are
+settles-twice : (g : Geometry) (f : Flash) → Admits g f → readState (g .ws) (f .state) ≡ Swap
+    → progress (g .ws) (f .state) < 2 * pageCount g f → (j k : ℕ) → (Cut g j f → ⊥) → (Cut g k (ran g j f) → ⊥)
+    → Quiet g (ran g k (ran g j f))
+unfolding pageCount
+settles-twice g f a swap h j k w v =
+    let x : Flash = ran g j f in
+    let e : x ≡ applyAll (bootOps g f) f = ran-all g f a j w in
+    let p = swap-through g f a swap h in
+    let n : pageCount g x ≡ pageCount g f =
+    ap (λ (y : Flash). pageCount g y) e ∙ ap (pages g) (all-lengths (bootOps g f) f .active) in
+    let q : progress (g .ws) (x .state) ≡ progress (g .ws) (applyAll (bootOps g f) f .state) =
+    ap (λ (y : Flash). progress (g .ws) (y .state)) e in
+    settles-once g x (admits-ran g j f a) (ap (λ (y : Flash). readState (g .ws) (y .state)) e ∙ p .same ∙ swap)
+    (omega (arith, n, q, p .past)) k v
+
+pub settles : (g : Geometry) (f : Flash) → Settles g f
+unfolding runs prepareBoot
+settles g f a j k w v = go (swap-or-idle g f a)
+  where
+    due : readState (g .ws) (f .state) ≡ Swap → Dec (2 * pageCount g f ≤ progress (g .ws) (f .state))
+        → Quiet g (ran g k (ran g j f))
+    due e (yes h) = still g (ran g j f) k (settles-once g f a e h j w)
+    due e (no h) = settles-twice g f a e (lt-of-not-le h) j k w v
+
+    go : (readState (g .ws) (f .state) ≡ Swap) ⊎ (bootOps g f ≡ []) → Quiet g (ran g k (ran g j f))
+    go (inl e) = due e (decLe (2 * pageCount g f) (progress (g .ws) (f .state)))
+    go (inr e) = still g (ran g j f) k (still g f j (quiet g f a e))
