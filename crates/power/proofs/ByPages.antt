@@ -18,7 +18,8 @@ use Rattle.power.specs.Pages.{SwappedPages, RevertedPages, NeverMixed}
 use Rattle.power.proofs.Pages.{pages-le}
 use Rattle.power.proofs.Start.{newDfu, images, behind, Sized, sized}
 use Rattle.power.proofs.Tables.{Images}
-use Rattle.power.proofs.Proved.{power}
+use Rattle.power.proofs.Finish.{closed}
+use Rattle.power.proofs.Proved.{Turns, revertedDfu, turns, power}
 
 length-page : (p k : ℕ) (xs : List ℕ) → k * p + p ≤ length xs → length (pageAt p k xs) ≡ p
 unfolding pageAt
@@ -90,15 +91,14 @@ module _ (g : Geometry) (f : Flash) (r : Ready g f) where
           (omega (arith, pages-le (page g) {k = pageCount g f - 1} {n = pageCount g f} (omega (arith, r .some-page)), s .active))
 
   pub never-mixed : NeverMixed g f
-  unfolding reverted revertedErased
+  unfolding revertImages closed
   never-mixed =
       record {
         swapped = λ ks k w. subst (SwappedPages g f) (sym (power g f r .swaps ks k w .flash)) swapped-pages;
-        reverted = λ ks k w. go ks k (power g f r .reverts ks k w);
+        reverted = λ ks k w. go ks k (turns g f r ks k w);
       }
     where
-      go : (ks : List ℕ) (k : ℕ)
-          → Ends g ks k (swapTable g f) Swap (reverted g f) ⊎ Rests g ks k (swapTable g f) (revertedErased g f)
+      go : (ks : List ℕ) (k : ℕ) → Turns g ks k (swapTable g f) (f .active) (revertedDfu g f) (length (f .state))
           → RevertedPages g f (ran g k (runs g ks (swapTable g f)))
-      go ks k (inl e) = subst (RevertedPages g f) (sym (e .flash)) (reverted-pages _)
-      go ks k (inr e) = subst (RevertedPages g f) (sym (e .flash)) (reverted-pages _)
+      go ks k (inl e) = subst (RevertedPages g f) (sym (e .1 .flash)) (reverted-pages _)
+      go ks k (inr e) = subst (RevertedPages g f) (sym (e .1 .flash)) (reverted-pages _)

@@ -28,9 +28,12 @@ pub finish-close : (g : Geometry) (f : Flash) (S : ℕ) → length (f .state) �
 unfolding finishOps renewOps eraseOps closeOps
 finish-close g f S e = ap (closeOps g) e
 
-pub finish-count : (g : Geometry) (f : Flash) → length (finishOps g f) ≡ 3
+pub close-count : (g : Geometry) (S : ℕ) → length (closeOps g S) ≡ 3
 unfolding closeOps
-finish-count g f = ap length (finish-close g f (length (f .state)) refl)
+close-count g S = refl
+
+pub finish-count : (g : Geometry) (f : Flash) → length (finishOps g f) ≡ 3
+finish-count g f = ap length (finish-close g f (length (f .state)) refl) ∙ close-count g (length (f .state))
 
 module _ (A R : List ℕ) where
   pub invalidated : (w : ℕ) (st : List ℕ)

@@ -21,18 +21,37 @@ use Rattle.mem_flash.specs.Flash.{Flash, Op, applyAll, after}
 use Rattle.rules.specs.StateArea.{readState, progress}
 use Rattle.rules.specs.Steps.{swapFrom, revertFrom, pageCount}
 use Rattle.rules.specs.Calls.{Report}
-use Rattle.rules.specs.Boot.{finishOps, bootOps}
+use Rattle.rules.specs.Boot.{finishOps, bootOps, prepareBoot}
 use Rattle.rules.specs.Power.{magicArea, Fresh, swapMarks, swapTable, pageAt, withPage, revertImages, reverted, revertedErased, stepCost}
-use Rattle.power.specs.Power.{Marked, Ready, answer, ran, Cut, runs, AllCut, FirstWhole, Ends, Rests, AllAtLeast, AllBelow, Power, restated, NoPages}
+use Rattle.power.specs.Power.{Marked, Ready, answer, ran, Cut, runs, AllCut, FirstWhole, OneShort, Ends, Rests, AllAtLeast, AllBelow, Power, restated, NoPages}
 use Rattle.power.proofs.Areas.{flash-path, all-lengths}
 use Rattle.power.proofs.Pages.{mix}
 use Rattle.power.proofs.Finish.{closed, finish-count}
 use Rattle.power.proofs.Way.{Reads, Way, On, here, on-found, close-refl}
 use Rattle.power.proofs.Tables.{Images, table, table-reads, swap-way, revert-way, swap-count, revert-count}
 use Rattle.power.proofs.Start.{newDfu, images, mix-all-active, mix-all-dfu, mix-none, mix-first, mix-reverted, fresh-marks, swapped-marks, Sized, sized}
-use Rattle.power.proofs.Runs.{Admits, ran-after, whole-long, answer-done, Kept, Left, runs-left, runs-stuck}
+use Rattle.power.proofs.Runs.{Admits, ran-after, admits-ran, cut-short, whole-long, answer-done, Kept, Left, runs-left, runs-stuck}
 use Rattle.power.proofs.Swapped.{boot-reverts, Swapping, swap-kept, swap-short, swap-at, swap-ends, swap-reads}
-use Rattle.power.proofs.Reverted.{copies-none, closing, Reverting, copying, Turning, revert-kept, revert-short, revert-at, revert-ends, closed-boot, boot-idle}
+use Rattle.power.proofs.Reverted.{copies-none, closing, Reverting, copying, Turning, Place, revert-kept, revert-place, revert-short, revert-at, revert-ends, closed-boot, boot-idle}
+
+no-swap : Boot ≡ Swap → ⊥
+no-swap e = let z : _≡_ {A = ℕ} 0 1 = cc in omega arith
+
+-- the two ways a revert ends, with the images A and R and n bytes of state: by the place of the last cut
+abbrev pub Turns : Geometry → List ℕ → ℕ → Flash → List ℕ → List ℕ → ℕ → Type 0
+Turns g ks k f A R n =
+    ((OneShort g ks f → ⊥) × Ends g ks k f Swap (closed A R (magicArea (g .ws) Revert n)))
+    ⊎ (OneShort g ks f × Rests g ks k f (closed A R (replicate n erased)))
+
+turned : (g : Geometry) (ks : List ℕ) (k : ℕ) (f : Flash) (A R : List ℕ) (n : ℕ) → Turns g ks k f A R n → (OneShort g ks f → ⊥)
+    → Ends g ks k f Swap (closed A R (magicArea (g .ws) Revert n))
+turned g ks k f A R n (inl e) o = e .1
+turned g ks k f A R n (inr e) o = absurd (o (e .0))
+
+rested : (g : Geometry) (ks : List ℕ) (k : ℕ) (f : Flash) (A R : List ℕ) (n : ℕ) → Turns g ks k f A R n → OneShort g ks f
+    → Rests g ks k f (closed A R (replicate n erased))
+rested g ks k f A R n (inl e) o = absurd (e .0 o)
+rested g ks k f A R n (inr e) o = e .1
 
 -- a run that is not cut, in the words of the statement
 module _ (g : Geometry) (ks : List ℕ) (k : ℕ) (f : Flash) (a : Admits g (runs g ks f))
@@ -181,28 +200,65 @@ module _ (g : Geometry) (f : Flash) (m : Marked g f) (room : 4 * pageCount g f +
     back-left ks cuts =
         runs-left g Back kept ks (swapTable g f) (length (revertFrom N 0 (2 * N))) admits-swapped (copying from-table) cuts
 
-    turns-back : (ks : List ℕ) (k : ℕ) → FirstWhole g ks k (swapTable g f)
-        → Ends g ks k (swapTable g f) Swap (closed A R (magicArea (g .ws) Revert S))
-        ⊎ Rests g ks k (swapTable g f) (closed A R (replicate S erased))
-    turns-back ks k w = go
-        (revert-ends g (s .whole) (s .cost) (s .ws) (s .page-some) N t (s .room) A R (s .active) (swapTable g f) way-back
-        (runs g ks (swapTable g f)) (l .rest) (l .inv) k long)
+    -- a run that is cut did not start at the erased state area
+    not-erased : (k : ℕ) (x : Flash) → Admits g x → Cut g k x → x ≡ closed A R (replicate S erased) → ⊥
+    not-erased k x a c e = omega (arith, cut-short g k x a c, ap length (ap (bootOps g) e ∙ boot-idle g A R t (s .ws)))
+
+    -- that is reached just by a last cut with one operation left
+    place-one : (k : ℕ) (now : Flash) (rest : ℕ) → Admits g now → Back now rest → Cut g k now
+        → Place g (closed A R (replicate S erased)) (k + 1 ≡ length (bootOps g now)) (ran g k now)
+    place-one k now rest a on c =
+        subst (λ (x : Flash). Place g (closed A R (replicate S erased)) (k + 1 ≡ length (bootOps g now)) x)
+        (sym (ran-after g k now a))
+        (revert-place g (s .whole) (s .cost) (s .ws) (s .page-some) N t (s .room) A R (s .active)
+        (swapTable g f) way-back now rest on k
+        (cut-short g k now a c))
+
+    place : (ks : List ℕ) (now : Flash) (rest : ℕ) → Admits g now → Back now rest → readState (g .ws) (now .state) ≡ Swap
+        → AllCut g ks now → Place g (closed A R (replicate S erased)) (OneShort g ks now) (runs g ks now)
+    unfolding runs AllCut OneShort prepareBoot
+    place [] now rest a on swap cuts = inr (λ e. e, swap)
+    place (k ∷ []) now rest a on swap cuts = place-one k now rest a on (cuts .0)
+    place (k ∷ j ∷ ks) now rest a on swap cuts =
+        let o = kept now rest on k (cut-short g k now a (cuts .0)) in
+        place (j ∷ ks) (ran g k now) (o .rest) (admits-ran g k now a)
+        (subst (λ (x : Flash). Back x (o .rest)) (sym (ran-after g k now a)) (o .inv))
+        (next (place-one k now rest a on (cuts .0))) (cuts .1)
       where
+        next : Place g (closed A R (replicate S erased)) (k + 1 ≡ length (bootOps g now)) (ran g k now)
+            → readState (g .ws) (ran g k now .state) ≡ Swap
+        next (inl e) = absurd (not-erased j (ran g k now) (admits-ran g k now a) (cuts .1 .0) (e .1))
+        next (inr e) = e .1
+
+    turns-back : (ks : List ℕ) (k : ℕ) → FirstWhole g ks k (swapTable g f) → Turns g ks k (swapTable g f) A R (length (f .state))
+    turns-back ks k w =
+        subst (Turns g ks k (swapTable g f) A R) (sym (s .state))
+        (go (place ks (swapTable g f) (length (revertFrom N 0 (2 * N))) admits-swapped (copying from-table) swap (w .cuts))
+        (revert-ends g (s .whole) (s .cost) (s .ws) (s .page-some) N t (s .room) A R (s .active) (swapTable g f) way-back
+        (runs g ks (swapTable g f)) (l .rest) (l .inv) k long))
+      where
+        swap : readState (g .ws) (swapTable g f .state) ≡ Swap
+        swap = on-found g N S h (swapTable g f) from-table .reads .swap
+
         l : Left g Back (runs g ks (swapTable g f)) ks (length (revertFrom N 0 (2 * N)))
         l = back-left ks (w .cuts)
 
         long : length (bootOps g (runs g ks (swapTable g f))) ≤ k
         long = whole-long g k (runs g ks (swapTable g f)) (l .admits) (w .whole)
 
-        go : ((after k (bootOps g (runs g ks (swapTable g f))) (runs g ks (swapTable g f))
+        boot : readState (g .ws) (closed A R (replicate S erased) .state) ≡ Boot
+        boot = closed-boot g A R t (s .ws)
+
+        go : Place g (closed A R (replicate S erased)) (OneShort g ks (swapTable g f)) (runs g ks (swapTable g f))
+            → ((after k (bootOps g (runs g ks (swapTable g f))) (runs g ks (swapTable g f))
             ≡ closed A R (magicArea (g .ws) Revert S))
             × (readState (g .ws) (runs g ks (swapTable g f) .state) ≡ Swap))
             ⊎ (runs g ks (swapTable g f) ≡ closed A R (replicate S erased))
-            → Ends g ks k (swapTable g f) Swap (closed A R (magicArea (g .ws) Revert S))
-            ⊎ Rests g ks k (swapTable g f) (closed A R (replicate S erased))
-        go (inl e) = inl (ends-at g ks k (swapTable g f) (l .admits) long Swap _ (e .1) (e .0))
-        go (inr e) =
-            inr (rests-at g ks k (swapTable g f) (l .admits) long _ e (boot-idle g A R t (s .ws)) (closed-boot g A R t (s .ws)))
+            → Turns g ks k (swapTable g f) A R S
+        go (inl p) e = inr (p .0, rests-at g ks k (swapTable g f) (l .admits) long _ (p .1) (boot-idle g A R t (s .ws)) boot)
+        go (inr p) (inl e) = inl (p .0, ends-at g ks k (swapTable g f) (l .admits) long Swap _ (e .1) (e .0))
+        go (inr p) (inr e) =
+            absurd (no-swap (sym boot ∙ sym (ap (λ (x : Flash). readState (g .ws) (x .state)) e) ∙ p .1))
 
     back-never : 1 ≤ N → (ks : List ℕ) → AllBelow (stepCost g) ks
         → AllCut g ks (swapTable g f) × (progress (g .ws) (runs g ks (swapTable g f) .state) ≡ 2 * N)
@@ -218,34 +274,36 @@ module _ (g : Geometry) (f : Flash) (m : Marked g f) (room : 4 * pageCount g f +
 
 -- ---- the theorem
 
-module _ (g : Geometry) (f : Flash) (r : Ready g f) where
-  abbrev R : List ℕ
-  R = withPage (page g) (pageCount g f) (pageAt (page g) (pageCount g f - 1) (f .active)) (f .dfu)
+-- DFU after the revert: as before the swap but for page N
+abbrev pub revertedDfu : Geometry → Flash → List ℕ
+revertedDfu g f = withPage (page g) (pageCount g f) (pageAt (page g) (pageCount g f - 1) (f .active)) (f .dfu)
 
+module _ (g : Geometry) (f : Flash) (r : Ready g f) where
   sizes : Sized g f (words (g .ws) (length (f .state)) - 2)
   sizes = sized g f (r .marked .admitted) (r .room)
 
-  end : mix (page g) (pageCount g f) (f .dfu) (newDfu (page g) (f .active) (f .dfu)) ≡ R
+  end : mix (page g) (pageCount g f) (f .dfu) (newDfu (page g) (f .active) (f .dfu)) ≡ revertedDfu g f
   end = mix-reverted (page g) (pageCount g f) (f .active) (f .dfu) (sizes .page-some) (sizes .active) (sizes .dfu) (r .some-page)
+
+  pub turns : (ks : List ℕ) (k : ℕ) → FirstWhole g ks k (swapTable g f)
+      → Turns g ks k (swapTable g f) (f .active) (revertedDfu g f) (length (f .state))
+  turns = turns-back g f (r .marked) (r .room) (revertedDfu g f) end
 
   pub power : Power g f
   unfolding reverted revertedErased revertImages closed
   power =
       record {
         swaps = swaps g f (r .marked) (r .room) (r .some-page);
-        reverts = λ ks k w.
-            subst
-            (λ (n : ℕ). Ends g ks k (swapTable g f) Swap (closed (f .active) R (magicArea (g .ws) Revert n))
-            ⊎ Rests g ks k (swapTable g f) (closed (f .active) R (replicate n erased)))
-            (sym (sizes .state)) (turns-back g f (r .marked) (r .room) R end ks k w);
+        reverts = λ ks k w o. turned g ks k (swapTable g f) (f .active) (revertedDfu g f) (length (f .state)) (turns ks k w) o;
+        rests = λ ks k w o. rested g ks k (swapTable g f) (f .active) (revertedDfu g f) (length (f .state)) (turns ks k w) o;
         swap-soon = λ ks many cuts.
             let l = swap-left g f (r .marked) (r .room) (r .some-page) ks cuts in
             omega (arith, l .gain many, l .inv .1, swap-count (pageCount g f) 0);
         revert-soon = λ ks many cuts.
-            let l = back-left g f (r .marked) (r .room) R end ks cuts in
+            let l = back-left g f (r .marked) (r .room) (revertedDfu g f) end ks cuts in
             omega (arith, l .gain many, revert-count (pageCount g f) 0 (2 * pageCount g f));
         swap-never = swap-never g f (r .marked) (r .room) (r .some-page);
-        revert-never = back-never g f (r .marked) (r .room) R end (r .some-page);
+        revert-never = back-never g f (r .marked) (r .room) (revertedDfu g f) end (r .some-page);
       }
 
 -- ---- no pages
@@ -297,6 +355,11 @@ module _ (g : Geometry) (f : Flash) (m : Marked g f) (none : pageCount g f ≡ 0
       ∙ ap (λ (os : List Op). os ++ finishOps g f) (copies-none g f (pageCount g f) 0 (2 * pageCount g f) (omega (arith, none))))
       ∙ finish-count g f
 
+  turns-none : (ks : List ℕ) (k : ℕ) → FirstWhole g ks k f → Turns g ks k f (f .active) (f .dfu) (length (f .state))
+  turns-none ks k =
+      subst (λ (x : Flash). FirstWhole g ks k x → Turns g ks k x (f .active) (f .dfu) (length (f .state))) already
+      (turns-back g f m room (f .dfu) stays ks k)
+
   pub no-pages : NoPages g f
   unfolding closed
   no-pages =
@@ -305,14 +368,6 @@ module _ (g : Geometry) (f : Flash) (m : Marked g f) (none : pageCount g f ≡ 0
         three = λ k h.
             answer-done g k f (m .admitted) (rw count h)
             ∙ ap₂ (λ (x : State) (c : ℕ). record { number = 0; state = some x; count = c }) (reads g f m room .swap) count;
-        reverts = λ ks k w.
-            subst
-            (λ (n : ℕ). Ends g ks k f Swap (closed (f .active) (f .dfu) (magicArea (g .ws) Revert n))
-            ⊎ Rests g ks k f (closed (f .active) (f .dfu) (replicate n erased)))
-            (sym (fits .state))
-            (subst
-            (λ (x : Flash). FirstWhole g ks k x
-            → Ends g ks k x Swap (closed (f .active) (f .dfu) (magicArea (g .ws) Revert ((2 + t g f m room) * g .ws)))
-            ⊎ Rests g ks k x (closed (f .active) (f .dfu) (replicate ((2 + t g f m room) * g .ws) erased)))
-            already (λ v. turns-back g f m room (f .dfu) stays ks k v) w);
+        reverts = λ ks k w o. turned g ks k f (f .active) (f .dfu) (length (f .state)) (turns-none ks k w) o;
+        rests = λ ks k w o. rested g ks k f (f .active) (f .dfu) (length (f .state)) (turns-none ks k w) o;
       }

@@ -22,7 +22,7 @@ use Rattle.rules.specs.Power.{magicArea, stepCost}
 use Rattle.power.proofs.Bytes.{bytes-replicate, erased-within, written-erased}
 use Rattle.power.proofs.Words.{spread, marks, spread-replicate, length-spread, length-marks, word-spread, reads-swap, progress-void, erased-reads-boot, magic-byte, void-written}
 use Rattle.power.proofs.Areas.{apply-append, cut-first, cut-past, after-all, flash-path}
-use Rattle.power.proofs.Finish.{closed, closeOps, finish-close, invalidated, wiped, finished}
+use Rattle.power.proofs.Finish.{closed, closeOps, close-count, finish-close, invalidated, wiped, finished}
 use Rattle.power.proofs.Way.{Reads, Way, On, Found, on-found, on-end, Outcome, through, stopped, run-on, copies-skip}
 use Rattle.power.proofs.Tables.{revert-steps, revert-count}
 use Rattle.power.proofs.Runs.{Kept}
@@ -83,13 +83,23 @@ pub data Reverting (g : Geometry) (N S : ℕ) (h void gone now : Flash) : ℕ �
   voided : now ≡ void → Reverting g N S h void gone now 0
   emptied : now ≡ gone → Reverting g N S h void gone now 0
 
--- what a run of the operations os with a budget of k leaves: it ends; or nothing is wanted; or it is cut
+-- the flash x after a cut: the state area is erased just if the cut fell there, and else it reads Swap
+abbrev pub Place : Geometry → Flash → Type 0 → Flash → Type 0
+Place g gone there x = (there × (x ≡ gone)) ⊎ ((there → ⊥) × (readState (g .ws) (x .state) ≡ Swap))
+
+place-map : (g : Geometry) (gone x : Flash) (P Q : Type 0) → (P → Q) → (Q → P) → Place g gone P x → Place g gone Q x
+place-map g gone x P Q to from (inl e) = inl (to (e .0), e .1)
+place-map g gone x P Q to from (inr e) = inr (λ q. e .0 (from q), e .1)
+
+-- what a run of the operations os with a budget of k leaves: it ends; or nothing is wanted; or it is cut, and the state area is
+-- erased just if one operation was left to do
 data Reverts (g : Geometry) (N S : ℕ) (h void gone done now : Flash) (rest k : ℕ) (os : List Op) : Type 0 where
   ends : length os ≤ k → applyAll os now ≡ done → readState (g .ws) (now .state) ≡ Swap → (k < stepCost g → rest ≡ 0)
       → Reverts g N S h void gone done now rest k os
   idle : now ≡ gone → os ≡ [] → rest ≡ 0 → Reverts g N S h void gone done now rest k os
   cut : (l : ℕ) → k < length os → l ≤ rest → (stepCost g ≤ k → l < rest) → (k < stepCost g → l ≡ rest)
-      → Reverting g N S h void gone (applyAll (take k os) now) l → Reverts g N S h void gone done now rest k os
+      → Reverting g N S h void gone (applyAll (take k os) now) l → Place g gone (k + 1 ≡ length os) (applyAll (take k os) now)
+      → Reverts g N S h void gone done now rest k os
 
 -- N pages, whose way back from f₀ ends with the images A and R and 4N marks of t
 module _ (g : Geometry) (whole : page g / g .b * g .b ≡ page g) (cost : 3 ≤ stepCost g) (ws : 0 < g .ws) (p : 0 < page g)
@@ -117,16 +127,35 @@ module _ (g : Geometry) (whole : page g / g .b * g .b ≡ page g) (cost : 3 ≤ 
   Turned now rest k os = Reverts g N S h void gone done now rest k os
 
   -- the last three operations, from a validity word that holds v: cut, and whole
+  close-erased : (v : ℕ) → apply (erase state 0 S) (apply (invalidateOp (g .ws)) (closing g A R t (4 * N) v)) ≡ gone
+  unfolding closing
+  close-erased v =
+      ap (apply (erase state 0 S)) (voids g A R t (4 * N) room v)
+      ∙ wiped A R S (spread (g .ws) (marks marked (4 * N) (t - 4 * N))) (state-size g A R t (4 * N) room marked)
+
   close-cut : (v : ℕ) → Turning (closing g A R t (4 * N) v) 0 → (j : ℕ) → j < 3
       → Turning (applyAll (take j (closeOps g S)) (closing g A R t (4 * N) v)) 0
   unfolding applyAll closeOps closing
   close-cut v on zero less = on
   close-cut v on (suc zero) less = voided (voids g A R t (4 * N) room v)
-  close-cut v on (suc (suc zero)) less =
-      emptied
-      (ap (apply (erase state 0 S)) (voids g A R t (4 * N) room v)
-      ∙ wiped A R S (spread (g .ws) (marks marked (4 * N) (t - 4 * N))) (state-size g A R t (4 * N) room marked))
+  close-cut v on (suc (suc zero)) less = emptied (close-erased v)
   close-cut v on (suc (suc (suc j))) less = absurd (omega arith)
+
+  closing-swap : (v : ℕ) → readState (g .ws) (closing g A R t (4 * N) v .state) ≡ Swap
+  unfolding closing closed
+  closing-swap v = reads-swap (g .ws) ws v (4 * N) (t - 4 * N) (omega arith)
+
+  close-place : (v j : ℕ) → j < 3 → Place g gone (j + 1 ≡ 3) (applyAll (take j (closeOps g S)) (closing g A R t (4 * N) v))
+  unfolding applyAll closeOps closing
+  close-place v zero less = inr (λ e. omega arith, closing-swap v)
+  close-place v (suc zero) less =
+      inr (
+        λ e. omega arith,
+        ap (λ (x : Flash). readState (g .ws) (x .state)) (voids g A R t (4 * N) room v)
+            ∙ closing-swap marked,
+      )
+  close-place v (suc (suc zero)) less = inl (refl, close-erased v)
+  close-place v (suc (suc (suc j))) less = absurd (omega arith)
 
   close-all : (v : ℕ) → applyAll (closeOps g S) (closing g A R t (4 * N) v) ≡ done
   unfolding closing
@@ -153,12 +182,13 @@ module _ (g : Geometry) (whole : page g / g .b * g .b ≡ page g) (cost : 3 ≤ 
           ends (omega (arith, size)) (apply-append os (closeOps g S) now ∙ ap (applyAll (closeOps g S)) d ∙ close-all v) swap none
       go (no y) =
           let short : k < length os + 3 = lt-of-not-le y in
+          let at : applyAll (take k (os ++ closeOps g S)) now ≡ applyAll (take j (closeOps g S)) (closing g A R t (4 * N) v) =
+          ap (λ (z : ℕ). applyAll (take z (os ++ closeOps g S)) now) (sym e) ∙ cut-past j os (closeOps g S) now
+          ∙ ap (applyAll (take j (closeOps g S))) d in
           cut 0 (omega (arith, size)) zero-le (λ x. some x short) (λ x. sym (none x))
-          (subst (λ (x : Flash). Turning x 0)
-          (sym
-          (ap (λ (z : ℕ). applyAll (take z (os ++ closeOps g S)) now) (sym e) ∙ cut-past j os (closeOps g S) now
-          ∙ ap (applyAll (take j (closeOps g S))) d))
-          (close-cut v on j (omega arith)))
+          (subst (λ (x : Flash). Turning x 0) (sym at) (close-cut v on j (omega arith)))
+          (subst (λ (x : Flash). Place g gone (k + 1 ≡ length (os ++ closeOps g S)) x) (sym at)
+          (place-map g gone _ _ _ (λ q. omega (arith, size, e)) (λ q. omega (arith, size, e)) (close-place v j (omega arith))))
 
   void-reads : Reads g N S (2 + (4 * N + (t - 4 * N)) - 3) void
   unfolding closing closed pageCount pages
@@ -213,9 +243,15 @@ module _ (g : Geometry) (whole : page g / g .b * g .b ≡ page g) (cost : 3 ≤ 
           tail-run erased (copying (on-end g N S h cs (2 * N) f₀ way)) now rest k os l d (r .reads .swap)
           (λ x y. some x y (decLe 1 rest)) none
       go (stopped l c z b gain still o) =
+          let at : applyAll (take k (os ++ closeOps g S)) now ≡ applyAll (take k os) now =
+          cut-first k os (closeOps g S) now (omega (arith, c)) in
           cut l (omega (arith, length-append os (closeOps g S))) b gain still
-          (copying (subst (λ (x : Flash). On g N S h x (2 * N) cs l)
-          (sym (cut-first k os (closeOps g S) now (omega (arith, c)))) o))
+          (copying (subst (λ (x : Flash). On g N S h x (2 * N) cs l) (sym at) o))
+          (inr (
+            λ q. omega (arith, c, q, length-append os (closeOps g S), close-count g S),
+            ap (λ (x : Flash). readState (g .ws) (x .state)) at
+                ∙ on-found g N S h (applyAll (take k os) now) o .reads .swap,
+          ))
 
   revert-run : (now : Flash) (rest : ℕ) → Turning now rest → (k : ℕ) → Turned now rest k (bootOps g now)
   revert-run now rest (copying on) k = copy-run now rest on k
@@ -230,7 +266,18 @@ module _ (g : Geometry) (whole : page g / g .b * g .b ≡ page g) (cost : 3 ≤ 
       go : Turned now rest k (bootOps g now) → Kept g Turning (applyAll (take k (bootOps g now)) now) k rest
       go (ends l d s z) = absurd (not-le-of-lt short l)
       go (idle e d z) = absurd (omega (arith, ap length d))
-      go (cut l c b gain still o) = record { rest = l; inv = o; fewer = b; gain = gain; still = still }
+      go (cut l c b gain still o w) = record { rest = l; inv = o; fewer = b; gain = gain; still = still }
+
+  pub revert-place : (now : Flash) (rest : ℕ) → Turning now rest → (k : ℕ) → k < length (bootOps g now)
+      → Place g gone (k + 1 ≡ length (bootOps g now)) (after k (bootOps g now) now)
+  unfolding after
+  revert-place now rest on k short = go (revert-run now rest on k)
+    where
+      go : Turned now rest k (bootOps g now)
+          → Place g gone (k + 1 ≡ length (bootOps g now)) (applyAll (take k (bootOps g now)) now)
+      go (ends l d s z) = absurd (not-le-of-lt short l)
+      go (idle e d z) = absurd (omega (arith, ap length d))
+      go (cut l c b gain still o w) = w
 
   -- a run that is not cut leaves the images, from a state area that reads Swap or from one that is erased
   pub revert-ends : (now : Flash) (rest : ℕ) → Turning now rest → (k : ℕ) → length (bootOps g now) ≤ k
@@ -242,7 +289,7 @@ module _ (g : Geometry) (whole : page g / g .b * g .b ≡ page g) (cost : 3 ≤ 
           → ((after k (bootOps g now) now ≡ done) × (readState (g .ws) (now .state) ≡ Swap)) ⊎ (now ≡ gone)
       go (ends l d s z) = inl (after-all k (bootOps g now) now long ∙ d, s)
       go (idle e d z) = inr e
-      go (cut l c b gain still o) = absurd (not-le-of-lt c long)
+      go (cut l c b gain still o w) = absurd (not-le-of-lt c long)
 
   pub revert-short : (now : Flash) (rest : ℕ) → Turning now rest → 0 < rest → (k : ℕ) → k < stepCost g
       → k < length (bootOps g now)
@@ -251,7 +298,7 @@ module _ (g : Geometry) (whole : page g / g .b * g .b ≡ page g) (cost : 3 ≤ 
       go : Turned now rest k (bootOps g now) → k < length (bootOps g now)
       go (ends l d s z) = absurd (omega (arith, z few))
       go (idle e d z) = absurd (omega (arith, z))
-      go (cut l c b gain still o) = c
+      go (cut l c b gain still o w) = c
 
   pub revert-at : (now : Flash) (rest : ℕ) → Turning now rest → rest ≡ 2 * N → 0 < N → progress (g .ws) (now .state) ≡ 2 * N
   revert-at now rest (copying on) e some =

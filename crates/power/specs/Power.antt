@@ -1,7 +1,6 @@
 -- Document 01, "What the power may do", and demand 3 of the mission: the statement. The tables are those of the crate
 -- `rules`, a run is a call of prepare_boot with a budget, and no step is run here. Proved in proofs/Proved. Assumes nothing.
 use mathlib.Core.Path.{_≡_}
-use mathlib.Core.Logic.{_⊎_}
 use mathlib.Core.Option.{some}
 use mathlib.Core.List.{List, [], _∷_}
 use Prim.Native.Nat.{ℕ, _+_, _*_, _≤_, _<_}
@@ -84,7 +83,13 @@ AllBelow n (k ∷ ks) = (k < n) × AllBelow n ks
 
 -- ---- the promise
 
--- cuts fell after the state's erase: the flash h has been reached, and the next run answers Boot with no operation
+-- the last of these runs was cut with one operation left to do: in a revert, after the state's erase and before the magic
+unfoldable pub OneShort : Geometry → List ℕ → Flash → Type 0
+OneShort g [] f = ⊥
+OneShort g (k ∷ []) f = k + 1 ≡ length (prepareBoot g f .ops)
+OneShort g (k ∷ j ∷ ks) f = OneShort g (j ∷ ks) (ran g k f)
+
+-- the cut runs have reached the flash h, and the next one answers Boot with no operation
 pub record Rests (g : Geometry) (ks : List ℕ) (k : ℕ) (f h : Flash) : Type 0 where
   pub reached : runs g ks f ≡ h
   pub answers : answer g k (runs g ks f) ≡ record { number = 0; state = some Boot; count = 0 }
@@ -94,9 +99,12 @@ pub record Rests (g : Geometry) (ks : List ℕ) (k : ℕ) (f h : Flash) : Type 0
 pub record Power (g : Geometry) (f : Flash) : Type 0 where
   -- the first run that is not cut leaves the swap table
   pub swaps : (ks : List ℕ) (k : ℕ) → FirstWhole g ks k f → Ends g ks k f Swap (swapTable g f)
-  -- from there the first run that is not cut leaves the revert's images; the state area stays erased if the cuts left it so
-  pub reverts : (ks : List ℕ) (k : ℕ) → FirstWhole g ks k (swapTable g f)
-      → Ends g ks k (swapTable g f) Swap (reverted g f) ⊎ Rests g ks k (swapTable g f) (revertedErased g f)
+  -- from there the first run that is not cut leaves the revert's images, with the Revert magic
+  pub reverts : (ks : List ℕ) (k : ℕ) → FirstWhole g ks k (swapTable g f) → (OneShort g ks (swapTable g f) → ⊥)
+      → Ends g ks k (swapTable g f) Swap (reverted g f)
+  -- or, if the last cut fell after the state's erase, with the state area erased
+  pub rests : (ks : List ℕ) (k : ℕ) → FirstWhole g ks k (swapTable g f) → OneShort g ks (swapTable g f)
+      → Rests g ks k (swapTable g f) (revertedErased g f)
   -- with a step's cost at each run, the first that is not cut is at latest the 2N-th, and in the revert the (2N + 1)-th
   pub swap-soon : (ks : List ℕ) → AllAtLeast (stepCost g) ks → AllCut g ks f → length ks < 2 * pageCount g f
   pub revert-soon : (ks : List ℕ) → AllAtLeast (stepCost g) ks → AllCut g ks (swapTable g f) → length ks < 2 * pageCount g f + 1
@@ -115,6 +123,7 @@ restated st f = record { active = f .active; dfu = f .dfu; state = st }
 pub record NoPages (g : Geometry) (f : Flash) : Type 0 where
   pub swapped : swapTable g f ≡ f
   pub three : (k : ℕ) → 3 ≤ k → answer g k f ≡ record { number = 0; state = some Swap; count = 3 }
-  pub reverts : (ks : List ℕ) (k : ℕ) → FirstWhole g ks k f
+  pub reverts : (ks : List ℕ) (k : ℕ) → FirstWhole g ks k f → (OneShort g ks f → ⊥)
       → Ends g ks k f Swap (restated (magicArea (g .ws) Revert (length (f .state))) f)
-      ⊎ Rests g ks k f (restated (replicate (length (f .state)) erased) f)
+  pub rests : (ks : List ℕ) (k : ℕ) → FirstWhole g ks k f → OneShort g ks f
+      → Rests g ks k f (restated (replicate (length (f .state)) erased) f)
