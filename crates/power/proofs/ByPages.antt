@@ -1,23 +1,21 @@
 -- The swap table and the revert's images page by page (specs/Pages): `never-mixed`. Assumes nothing.
 use mathlib.Core.Path.{_≡_, refl, sym, ap, _∙_, subst}
-use mathlib.Core.Logic.{_⊎_, inl, inr}
+use mathlib.Core.Logic.{inl, inr}
 use mathlib.Core.List.{List, _++_}
-use Prim.Native.Nat.{ℕ, suc, _+_, _-_, _*_, _≤_, _<_}
+use Prim.Native.Nat.{ℕ, _+_, _-_, _*_, _≤_}
 use native.Mathlib.Numerals.{add-one}
 use native.Mathlib.Omega.{arith}
 use lib.ListN.{length, take, drop, length-append, length-drop}
 use lib.Seq.{take-at, drop-at, length-take-le, drop-append-add}
-use Rattle.state.specs.declared.State.the-variants.{Swap}
 use Rattle.geometry.specs.declared.Geometry.{Geometry}
 use Rattle.geometry.specs.Geometry.{page, words}
 use Rattle.mem_flash.specs.Flash.{Flash}
 use Rattle.rules.specs.Steps.{pageCount}
-use Rattle.rules.specs.Power.{pageAt, withPage, swapTable, revertImages, reverted, revertedErased}
-use Rattle.power.specs.Power.{Ready, ran, runs, Ends, Rests}
+use Rattle.rules.specs.Power.{pageAt, withPage, swapTable, revertImages}
+use Rattle.power.specs.Power.{Ready, ran, runs}
 use Rattle.power.specs.Pages.{SwappedPages, RevertedPages, NeverMixed}
 use Rattle.power.proofs.Pages.{pages-le}
 use Rattle.power.proofs.Start.{newDfu, images, behind, Sized, sized}
-use Rattle.power.proofs.Tables.{Images}
 use Rattle.power.proofs.Finish.{closed}
 use Rattle.power.proofs.Proved.{Turns, revertedDfu, turns, power}
 

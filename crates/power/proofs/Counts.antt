@@ -1,18 +1,18 @@
 -- How many operations a call does at the most, so that a count of 32 bits is enough (specs/Cuts, `EveryCount`). A boot runs 2N
 -- steps and three operations more; a write two for each byte. Assumes nothing.
-use mathlib.Core.Path.{_≡_, refl, ap, _∙_}
+use mathlib.Core.Path.{_≡_, refl, ap}
 use mathlib.Core.Bool.{Bool, true, false}
 use mathlib.Core.List.{List, [], _∷_, _++_}
 use Prim.Native.Nat.{ℕ, zero, suc, _+_, _*_, _/_, _≤_, _<_, zero-le}
 use native.Mathlib.Nat.{mul-le-mul-left, div-le-self}
 use native.Mathlib.Omega.{arith}
-use lib.Dec.{eqb, leb, ltb, lit<}
-use lib.ListN.{length, take, drop, length-append}
+use lib.Dec.{eqb, lit<}
+use lib.ListN.{length, drop, length-append}
 use borrow.Author.Tests.{ltb-false, eqb-true}
 use Rattle.state.specs.declared.State.{State}
 use Rattle.state.specs.declared.State.the-variants.{Boot, Swap, Revert, DfuDetach}
 use Rattle.state.specs.Choice.{pick}
-use Rattle.state.specs.Magic.{magic, throughout}
+use Rattle.state.specs.Magic.{magic}
 use Rattle.geometry.specs.declared.Geometry.{Geometry}
 use Rattle.geometry.specs.declared.Sizes.{Sizes}
 use Rattle.geometry.specs.Geometry.{page, pages}
@@ -22,11 +22,11 @@ use Rattle.geometry.proofs.Tests.{any-none, row-none, length-in, even-times, pa
 use Rattle.mem_flash.specs.Flash.{dfu, state, Flash, Op, write, applyAll, eraseOps}
 use Rattle.rules.specs.declared.Sector.{Sector}
 use Rattle.rules.specs.declared.Sector.the-variants.{At}
-use Rattle.rules.specs.StateArea.{valid, progress, invalidateOp, magicOp}
+use Rattle.rules.specs.StateArea.{valid, invalidateOp, magicOp}
 use Rattle.rules.specs.Steps.{Copy, copyOps, onceOps, copiesOps, swapSteps, revertSteps, pageCount, swapOps, revertOps}
 use Rattle.rules.specs.Boot.{renewOps, finishOps, bootOpsIn, bootOps, prepareBoot}
 use Rattle.rules.specs.FirmwareState.{setMagicOps, mark}
-use Rattle.rules.specs.FirmwareUpdater.{room, Piece, piecesFrom, pieces, remembers, piecesOps, pending, pastEnd, badRange, updaterCall, updaterMark, updaterMarkUpdated, updaterMarkDfu, updaterMarkBooted, writeFirmware, prepareUpdate}
+use Rattle.rules.specs.FirmwareUpdater.{room, Piece, piecesFrom, pieces, remembers, piecesOps, pastEnd, badRange, updaterCall, updaterMark, updaterMarkUpdated, updaterMarkDfu, updaterMarkBooted, writeFirmware, prepareUpdate}
 use Rattle.rules.specs.Power.{stepCost}
 use Rattle.power.specs.Cuts.{EveryCount}
 use Rattle.power.proofs.Erases.{erase-count}

@@ -1,6 +1,6 @@
 -- The laws of every call under every budget (specs/Cuts): `lawful` for any call with a number of the table, `every-call` for
 -- those of the crate. The first section is what Runs cites of prepare_boot. Assumes nothing.
-use mathlib.Core.Path.{_≡_, refl, sym, ap, _∙_}
+use mathlib.Core.Path.{_≡_, sym, ap, _∙_}
 use mathlib.Core.Bool.{Bool, true, false}
 use mathlib.Core.Option.{none}
 use mathlib.Core.List.{List, [], _∷_}
@@ -15,7 +15,7 @@ use Rattle.state.specs.Choice.{pick}
 use Rattle.geometry.specs.declared.Geometry.{Geometry}
 use Rattle.geometry.specs.declared.Sizes.{Sizes}
 use Rattle.geometry.specs.Refusals.{rowFrom, lowest, bootRefusal, stateRefusal, updaterRefusal}
-use Rattle.mem_flash.specs.Flash.{Flash, Op, applyAll, after}
+use Rattle.mem_flash.specs.Flash.{Flash, applyAll, after}
 use Rattle.rules.specs.Calls.{Report, Call, report, left}
 use Rattle.rules.specs.Boot.{prepareBoot, getState}
 use Rattle.rules.specs.FirmwareState.{mark}

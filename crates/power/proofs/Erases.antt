@@ -1,7 +1,7 @@
 -- Laws of an erase as a list of operations, for an area that may hold anything in the stretch: whole, cut, counted and placed.
 -- Every other file knows an erase by these laws alone. Assumes nothing.
 use mathlib.Core.Path.{_≡_, refl, ap, _∙_, subst}
-use mathlib.Core.List.{List, [], _∷_}
+use mathlib.Core.List.{List}
 use Prim.Native.Nat.{ℕ, zero, suc, _+_, _≤_}
 use native.Mathlib.Omega.{arith}
 use lib.ListN.{length, take}

@@ -4,7 +4,7 @@ use mathlib.Core.Path.{_≡_, refl, sym, ap, _∙_}
 use mathlib.Core.List.{List, [], _∷_, _++_, append-nil}
 use Prim.Native.Nat.{ℕ, _+_, _-_, _≤_}
 use native.Mathlib.Omega.{arith}
-use lib.ListN.{length, drop, replicate, length-replicate, replicate-append-replicate, drop-of-length-le}
+use lib.ListN.{length, replicate, length-replicate, replicate-append-replicate, drop-of-length-le}
 use Rattle.state.specs.declared.State.the-variants.{Revert}
 use Rattle.state.specs.Magic.{erased, marked, magic}
 use Rattle.geometry.specs.declared.Geometry.{Geometry}

@@ -1,6 +1,6 @@
 -- Every operation of a boot that is not refused lies inside its area, on the area's units (specs/Inside): `boots-inside`, from any
 -- bytes in the areas. Assumes nothing.
-use mathlib.Core.Path.{_≡_, refl, sym, ap, _∙_, subst}
+use mathlib.Core.Path.{_≡_, refl, sym, _∙_, subst}
 use mathlib.Core.Bool.{Bool, true, false}
 use mathlib.Core.List.{List, [], _∷_, _++_}
 use Prim.Native.Nat.{ℕ, zero, suc, _+_, _-_, _*_, _/_, _%_, _≤_, _<_}
@@ -19,7 +19,7 @@ use Rattle.geometry.specs.Refusals.{bootWords}
 use Rattle.geometry.specs.Admitted.{Admitted}
 use Rattle.geometry.proofs.Rows.{admitted}
 use Rattle.geometry.proofs.Tests.{even-times}
-use Rattle.mem_flash.specs.Flash.{Area, active, dfu, state, Flash, Op, erase, write, applyAll, eraseOps}
+use Rattle.mem_flash.specs.Flash.{Area, active, dfu, state, Flash, Op, write, applyAll}
 use Rattle.rules.specs.StateArea.{progress, markOp, invalidateOp, magicOp}
 use Rattle.rules.specs.Steps.{Copy, toDfu, toActive, swapFrom, revertFrom, swapSteps, revertSteps, sourceOf, unitOf, chunkOps, fillOps, copyOps, onceOps, copiesOps, pageCount, swapOps, revertOps}
 use Rattle.rules.specs.Boot.{renewOps, finishOps, bootOpsIn, bootOps, prepareBoot}

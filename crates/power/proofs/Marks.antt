@@ -1,8 +1,8 @@
 -- What a mark does to a state area that may hold anything: its own word is done, every other word is as it was; so the progress
 -- passes it, and the state read is the same. Cited by Settled. Assumes nothing.
-use mathlib.Core.Path.{_≡_, refl, sym, ap, _∙_, subst}
+use mathlib.Core.Path.{_≡_, refl, sym, ap, _∙_}
 use mathlib.Core.Bool.{Bool, true, false}
-use mathlib.Core.List.{List, [], _∷_, _++_}
+use mathlib.Core.List.{List, [], _∷_}
 use Prim.Native.Nat.{ℕ, zero, suc, _+_, _-_, _*_, _/_, _≤_, _<_}
 use native.Mathlib.Nat.{le-of-suc-le-suc, not-suc-le-zero, mul-le-mul-right, div-mul-le-self}
 use native.Mathlib.Decide.{decLt}
@@ -12,7 +12,7 @@ use lib.Seq.{drop-at, length-take-le}
 use Rattle.state.specs.Choice.{pick}
 use Rattle.state.specs.Magic.{erased, marked, throughout, holds, stateOf}
 use Rattle.geometry.specs.Geometry.{words}
-use Rattle.mem_flash.specs.Flash.{programmed, program, writtenAt}
+use Rattle.mem_flash.specs.Flash.{program, writtenAt}
 use Rattle.mem_flash.proofs.Bytes.{programmed-marked, marked-not-erased}
 use Rattle.rules.specs.StateArea.{word, readState, valid, markOpen, mostMarks, firstOpen, progress}
 use Rattle.power.proofs.Bytes.{length-written}

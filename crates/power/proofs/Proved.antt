@@ -2,9 +2,9 @@
 -- image that the revert leaves. Assumes nothing.
 use mathlib.Core.Path.{_≡_, refl, sym, ap, ap₂, _∙_, subst, subst₂}
 use mathlib.Core.Logic.{_⊎_, inl, inr}
-use mathlib.Core.Option.{Option, some}
+use mathlib.Core.Option.{some}
 use mathlib.Core.List.{List, [], _∷_, _++_}
-use Prim.Native.Nat.{ℕ, zero, suc, _+_, _-_, _*_, _/_, _≤_, _<_}
+use Prim.Native.Nat.{ℕ, zero, suc, _+_, _-_, _*_, _≤_, _<_}
 use native.Mathlib.Nat.{zero-mul}
 use native.Mathlib.Omega.{arith}
 use lib.ListN.{length, take, drop, replicate, take-append-drop}
@@ -14,7 +14,6 @@ use Rattle.state.specs.declared.State.the-variants.{Boot, Swap, Revert}
 use Rattle.state.specs.Magic.{erased}
 use Rattle.geometry.specs.declared.Geometry.{Geometry}
 use Rattle.geometry.specs.Geometry.{page, pages, words}
-use Rattle.geometry.specs.Refusals.{bootWords}
 use Rattle.geometry.proofs.Rows.{admitted}
 use Rattle.geometry.proofs.Tests.{boot-words-none}
 use Rattle.mem_flash.specs.Flash.{Flash, Op, applyAll, after}
@@ -23,8 +22,8 @@ use Rattle.rules.specs.Steps.{swapFrom, revertFrom, pageCount}
 use Rattle.rules.specs.Calls.{Report}
 use Rattle.rules.specs.Boot.{finishOps, bootOps, prepareBoot}
 use Rattle.rules.specs.Power.{magicArea, Fresh, swapMarks, swapTable, pageAt, withPage, revertImages, reverted, revertedErased, stepCost}
-use Rattle.power.specs.Power.{Marked, Ready, answer, ran, Cut, runs, AllCut, FirstWhole, OneShort, Ends, Rests, AllAtLeast, AllBelow, Power, restated, NoPages}
-use Rattle.power.proofs.Areas.{flash-path, all-lengths}
+use Rattle.power.specs.Power.{Marked, Ready, ran, Cut, runs, AllCut, FirstWhole, OneShort, Ends, Rests, AllBelow, Power, NoPages}
+use Rattle.power.proofs.Areas.{flash-path}
 use Rattle.power.proofs.Pages.{mix}
 use Rattle.power.proofs.Finish.{closed, finish-count}
 use Rattle.power.proofs.Way.{Reads, Way, On, here, on-found, close-refl}
@@ -32,7 +31,7 @@ use Rattle.power.proofs.Tables.{Images, table, table-reads, swap-way, r
 use Rattle.power.proofs.Start.{newDfu, images, mix-all-active, mix-all-dfu, mix-none, mix-first, mix-reverted, fresh-marks, swapped-marks, Sized, sized}
 use Rattle.power.proofs.Runs.{Admits, ran-after, admits-ran, cut-short, whole-long, answer-done, Kept, Left, runs-left, runs-stuck}
 use Rattle.power.proofs.Swapped.{boot-reverts, Swapping, swap-kept, swap-short, swap-at, swap-ends, swap-reads}
-use Rattle.power.proofs.Reverted.{copies-none, closing, Reverting, copying, Turning, Place, revert-kept, revert-place, revert-short, revert-at, revert-ends, closed-boot, boot-idle}
+use Rattle.power.proofs.Reverted.{copies-none, closing, copying, Turning, Place, revert-kept, revert-place, revert-short, revert-at, revert-ends, closed-boot, boot-idle}
 
 no-swap : Boot ≡ Swap → ⊥
 no-swap e = let z : _≡_ {A = ℕ} 0 1 = cc in omega arith

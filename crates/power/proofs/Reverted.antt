@@ -3,28 +3,27 @@
 -- Proved. Assumes nothing.
 use mathlib.Core.Path.{_≡_, refl, sym, ap, ap₂, _∙_, subst}
 use mathlib.Core.Logic.{_⊎_, inl, inr}
-use mathlib.Core.List.{List, [], _∷_, _++_, append-nil}
+use mathlib.Core.List.{List, [], _∷_, _++_}
 use Prim.Native.Nat.{ℕ, zero, suc, _+_, _-_, _*_, _/_, _≤_, _<_, zero-le}
 use native.Mathlib.Nat.{mul-div-cancel, not-le-of-lt, lt-of-not-le}
 use native.Mathlib.Decide.{decLe}
 use native.Mathlib.Omega.{arith}
-use lib.ListN.{length, take, drop, replicate, length-append, length-replicate, replicate-append-replicate, drop-of-length-le, getD, getD-replicate}
+use lib.ListN.{length, take, replicate, length-append, length-replicate, getD-replicate}
 use Rattle.state.specs.declared.State.{State}
 use Rattle.state.specs.declared.State.the-variants.{Boot, Swap, Revert}
-use Rattle.state.specs.Magic.{erased, marked, magic, stateOf}
+use Rattle.state.specs.Magic.{erased, marked, stateOf}
 use Rattle.geometry.specs.declared.Geometry.{Geometry}
 use Rattle.geometry.specs.Geometry.{page, pages}
-use Rattle.mem_flash.specs.Flash.{state, Flash, Op, erase, erasedAt, writtenAt, change, apply, applyAll, after, eraseOps}
-use Rattle.rules.specs.StateArea.{word, readState, progress, invalidateOp, magicOp}
+use Rattle.mem_flash.specs.Flash.{state, Flash, Op, erase, apply, applyAll, after}
+use Rattle.rules.specs.StateArea.{word, readState, progress, invalidateOp}
 use Rattle.rules.specs.Steps.{Copy, toDfu, toActive, revertFrom, copiesOps, pageCount}
-use Rattle.rules.specs.Boot.{renewOps, finishOps, bootOpsIn, bootOps}
+use Rattle.rules.specs.Boot.{bootOpsIn, bootOps}
 use Rattle.rules.specs.Power.{magicArea, stepCost}
-use Rattle.power.proofs.Bytes.{bytes-replicate, erased-within, written-erased}
-use Rattle.power.proofs.Words.{spread, marks, spread-replicate, length-spread, length-marks, word-spread, reads-swap, progress-void, erased-reads-boot, magic-byte, void-written}
-use Rattle.power.proofs.Areas.{apply-append, cut-first, cut-past, after-all, flash-path}
+use Rattle.power.proofs.Words.{spread, marks, spread-replicate, length-spread, length-marks, word-spread, reads-swap, progress-void, erased-reads-boot, void-written}
+use Rattle.power.proofs.Areas.{apply-append, cut-first, cut-past, after-all}
 use Rattle.power.proofs.Finish.{closed, closeOps, close-count, finish-close, invalidated, wiped, finished}
 use Rattle.power.proofs.Way.{Reads, Way, On, Found, on-found, on-end, Outcome, through, stopped, run-on, copies-skip}
-use Rattle.power.proofs.Tables.{revert-steps, revert-count}
+use Rattle.power.proofs.Tables.{revert-count}
 use Rattle.power.proofs.Runs.{Kept}
 use Rattle.power.proofs.Swapped.{boot-reverts}
 

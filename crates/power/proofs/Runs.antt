@@ -1,7 +1,7 @@
 -- Any number of cut runs: an invariant that one cut run keeps, with so many steps left, is kept by all of them, and the steps
 -- left fall by one a run if each budget pays for a step. Also what a run of prepare_boot is over its list of operations. Cited
 -- by Swapped, Reverted and Proved. Assumes nothing.
-use mathlib.Core.Path.{_≡_, refl, sym, ap, _∙_, subst}
+use mathlib.Core.Path.{_≡_, sym, subst}
 use mathlib.Core.Option.{some}
 use mathlib.Core.List.{List, [], _∷_}
 use Prim.Native.Nat.{ℕ, _+_, _≤_, _<_}
@@ -11,9 +11,8 @@ use native.Mathlib.Omega.{arith}
 use lib.ListN.{length, take}
 use Rattle.geometry.specs.declared.Geometry.{Geometry}
 use Rattle.geometry.specs.Refusals.{bootRefusal}
-use Rattle.mem_flash.specs.Flash.{Flash, Op, applyAll, after}
+use Rattle.mem_flash.specs.Flash.{Flash, Op, after}
 use Rattle.rules.specs.StateArea.{readState}
-use Rattle.rules.specs.Calls.{Report}
 use Rattle.rules.specs.Boot.{bootOps, prepareBoot}
 use Rattle.rules.specs.Power.{stepCost}
 use Rattle.power.specs.Power.{answer, ran, Cut, runs, AllCut, AllAtLeast, AllBelow}

@@ -1,7 +1,6 @@
 -- Of three boots in a row that are not cut, the third does nothing (specs/Settles): `settles`. A swap leaves a progress of 2N or
 -- more, a revert leaves the Revert magic, and every other state wants nothing. Assumes nothing.
-use mathlib.Core.Path.{_≡_, refl, sym, ap, ap₂, _∙_, subst}
-use mathlib.Core.Bool.{Bool, true, false}
+use mathlib.Core.Path.{_≡_, refl, sym, ap, _∙_, subst}
 use mathlib.Core.Option.{some}
 use mathlib.Core.Logic.{_⊎_, inl, inr}
 use mathlib.Core.List.{List, [], _∷_, _++_}
@@ -18,12 +17,11 @@ use Rattle.geometry.specs.declared.Geometry.{Geometry}
 use Rattle.geometry.specs.Geometry.{page, pages, words}
 use Rattle.geometry.specs.Refusals.{bootWords}
 use Rattle.geometry.proofs.Rows.{admitted}
-use Rattle.mem_flash.specs.Flash.{Area, active, dfu, state, Flash, Op, erasedAt, writtenAt, change, apply, applyAll, after}
-use Rattle.mem_flash.specs.Run.{placed}
+use Rattle.mem_flash.specs.Flash.{Flash, Op, erasedAt, writtenAt, change, apply, applyAll, after}
 use Rattle.rules.specs.StateArea.{word, readState, mostMarks, progress, markOp}
 use Rattle.rules.specs.Steps.{Copy, toDfu, toActive, swapFrom, revertFrom, sourceOf, unitOf, fillOps, copyOps, onceOps, copiesOps, pageCount}
 use Rattle.rules.specs.Calls.{Report}
-use Rattle.rules.specs.Boot.{finishOps, bootOpsIn, bootOps, prepareBoot}
+use Rattle.rules.specs.Boot.{bootOpsIn, bootOps, prepareBoot}
 use Rattle.rules.specs.Power.{magicArea}
 use Rattle.power.specs.Power.{answer, ran, Cut, runs}
 use Rattle.power.specs.Inside.{areaOf}
@@ -31,7 +29,7 @@ use Rattle.power.specs.Settles.{Quiet, Settles}
 use Rattle.power.proofs.Bytes.{chunked}
 use Rattle.power.proofs.Words.{revert-reads}
 use Rattle.power.proofs.Marks.{withMark, same-state, mark-passes}
-use Rattle.power.proofs.Areas.{apply-append, after-all, placed-same, Image, state-placed, SameLengths, all-lengths}
+use Rattle.power.proofs.Areas.{apply-append, after-all, placed-same, Image, state-placed, all-lengths}
 use Rattle.power.proofs.Steps.{fill-placed}
 use Rattle.power.proofs.Finish.{closed, closeOps, finish-close, finished}
 use Rattle.power.proofs.Way.{Reads, once-skip, once-do}

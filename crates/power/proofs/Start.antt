@@ -1,7 +1,7 @@
 -- The tables at the start and at the end of a swap and of a revert are those that the statement names, and what the proofs take
 -- from an admitted geometry. Cited by Proved. Assumes nothing.
 use mathlib.Core.Path.{_≡_, sym, ap, ap₂, _∙_}
-use mathlib.Core.List.{List, [], _∷_, _++_, append-assoc, append-nil}
+use mathlib.Core.List.{List, _++_, append-assoc, append-nil}
 use Prim.Native.Nat.{ℕ, zero, suc, _+_, _-_, _*_, _/_, _≤_, _<_, zero-le, suc-le-suc}
 use native.Mathlib.Nat.{zero-mul, one-mul, dvd-of-mod-eq-zero, dvd-trans, div-mul-cancel}
 use native.Mathlib.Omega.{arith}

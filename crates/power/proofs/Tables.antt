@@ -1,7 +1,7 @@
 -- The flash after each whole step, as one table for all 4N + 1 stages: c pages of active and d of DFU are the old ones, and n
 -- marks are done. The steps of the swap and of the revert lead from table to table. Cited by Start and Proved. Assumes nothing.
 use mathlib.Core.Path.{_≡_, refl, sym, ap, ap₂, _∙_, subst}
-use mathlib.Core.List.{List, [], _∷_}
+use mathlib.Core.List.{List, _∷_}
 use Prim.Native.Nat.{ℕ, zero, suc, _+_, _-_, _*_, _/_, _≤_, _<_}
 use native.Mathlib.Nat.{suc-mul, mul-le-mul-right, mul-div-cancel}
 use native.Mathlib.Omega.{arith}
@@ -9,7 +9,7 @@ use lib.ListN.{length, take, drop, replicate}
 use Rattle.state.specs.Magic.{erased, marked}
 use Rattle.geometry.specs.declared.Geometry.{Geometry}
 use Rattle.geometry.specs.Geometry.{page, pages}
-use Rattle.mem_flash.specs.Flash.{active, dfu, state, Flash, writtenAt, change}
+use Rattle.mem_flash.specs.Flash.{Flash, writtenAt, change}
 use Rattle.mem_flash.specs.Run.{placed}
 use Rattle.rules.specs.Steps.{Copy, toDfu, toActive, swapFrom, revertFrom, sourceOf, pageCount}
 use Rattle.rules.specs.Power.{pageAt, withPage}

@@ -1,7 +1,6 @@
 -- The tables of specs/Power read page by page, as document 01 words them, and what follows for the image that starts: it is never
 -- mixed. Proved in proofs/ByPages. Assumes nothing.
 use mathlib.Core.Path.{_≡_}
-use mathlib.Core.Logic.{_≢_}
 use mathlib.Core.List.{List}
 use Prim.Native.Nat.{ℕ, _+_, _-_, _*_, _<_}
 use lib.ListN.{length, take, drop}
