@@ -56,15 +56,15 @@ module _ (g : Geometry) (f : Flash) (r : Ready g f) where
   unfolding swapTable newDfu
   swapped-pages =
       let im =
-      images (page g) (pageCount g f) (f .active) (f .dfu) (s .page-some) (s .active) (s .dfu) (r .marked .active-bytes)
+      images (s .paged) (r .marked .active-bytes)
       (r .marked .dfu-bytes) in
       record {
         active = im .active-page;
         dfu = λ k h. rw add-one (im .dfu-page k h);
         dfu-first =
             take-at (take (page g) (f .dfu)) (f .active ++ drop (page g + length (f .active)) (f .dfu)) (page g)
-            (length-take-le (page g) (f .dfu) (omega (arith, s .dfu)));
-        dfu-rest = behind (page g) (pageCount g f) (f .active) (f .dfu) (s .page-some) (s .active) (s .dfu);
+            (length-take-le (page g) (f .dfu) (omega (arith, s .paged .dfu)));
+        dfu-rest = behind (s .paged);
         active-length = im .active-same;
         dfu-length = im .dfu-same;
       }
@@ -74,10 +74,10 @@ module _ (g : Geometry) (f : Flash) (r : Ready g f) where
   reverted-pages st =
       record {
         active = refl;
-        dfu-page = page-put (page g) (pageCount g f) old (f .dfu) whole (s .dfu);
-        dfu-before = before-put (page g) (pageCount g f) old (f .dfu) whole (s .dfu);
-        dfu-rest = behind-put (page g) (pageCount g f) old (f .dfu) whole (s .dfu);
-        dfu-length = length-put (page g) (pageCount g f) old (f .dfu) whole (s .dfu);
+        dfu-page = page-put (page g) (pageCount g f) old (f .dfu) whole (s .paged .dfu);
+        dfu-before = before-put (page g) (pageCount g f) old (f .dfu) whole (s .paged .dfu);
+        dfu-rest = behind-put (page g) (pageCount g f) old (f .dfu) whole (s .paged .dfu);
+        dfu-length = length-put (page g) (pageCount g f) old (f .dfu) whole (s .paged .dfu);
       }
     where
       old : List ℕ
@@ -86,7 +86,12 @@ module _ (g : Geometry) (f : Flash) (r : Ready g f) where
       whole : length old ≡ page g
       whole =
           length-page (page g) (pageCount g f - 1) (f .active)
-          (omega (arith, pages-le (page g) {k = pageCount g f - 1} {n = pageCount g f} (omega (arith, r .some-page)), s .active))
+          (omega (
+            arith,
+            pages-le (page g) {k = pageCount g f - 1} {n = pageCount g f}
+                (omega (arith, r .some-page)),
+            s .paged .active,
+          ))
 
   pub never-mixed : NeverMixed g f
   unfolding revertImages closed

@@ -4,7 +4,7 @@ use mathlib.Core.Path.{_≡_, refl, sym, ap, ap₂, _∙_, subst, subst₂}
 use mathlib.Core.Logic.{_⊎_, inl, inr}
 use mathlib.Core.Option.{some}
 use mathlib.Core.List.{List, [], _∷_, _++_}
-use Prim.Native.Nat.{ℕ, zero, suc, _+_, _-_, _*_, _≤_, _<_}
+use Prim.Native.Nat.{ℕ, zero, suc, _+_, _-_, _*_, _≤_}
 use native.Mathlib.Nat.{zero-mul}
 use native.Mathlib.Omega.{arith}
 use lib.ListN.{length, take, drop, replicate, take-append-drop}
@@ -29,9 +29,9 @@ use Rattle.power.proofs.Finish.{closed, finish-count}
 use Rattle.power.proofs.Way.{Reads, Way, On, here, on-found, close-refl}
 use Rattle.power.proofs.Tables.{Images, table, table-reads, swap-way, revert-way, swap-count, revert-count}
 use Rattle.power.proofs.Start.{newDfu, images, mix-all-active, mix-all-dfu, mix-none, mix-first, mix-reverted, fresh-marks, swapped-marks, Sized, sized}
-use Rattle.power.proofs.Runs.{Admits, ran-after, admits-ran, cut-short, whole-long, answer-done, Kept, Left, runs-left, runs-stuck}
+use Rattle.power.proofs.Runs.{Admits, ran-after, admits-ran, cut-short, whole-long, answer-done, Left, runs-left, runs-stuck}
 use Rattle.power.proofs.Swapped.{boot-reverts, Swapping, swap-kept, swap-short, swap-at, swap-ends, swap-reads}
-use Rattle.power.proofs.Reverted.{copies-none, closing, copying, Turning, Place, revert-kept, revert-place, revert-short, revert-at, revert-ends, closed-boot, boot-idle}
+use Rattle.power.proofs.Reverted.{Course, copies-none, closing, copying, Turning, Place, revert-kept, revert-place, revert-short, revert-at, revert-ends, closed-boot, boot-idle}
 
 no-swap : Boot ≡ Swap → ⊥
 no-swap e = let z : _≡_ {A = ℕ} 0 1 = cc in omega arith
@@ -111,14 +111,14 @@ module _ (g : Geometry) (f : Flash) (m : Marked g f) (room : 4 * pageCount g f +
   s = sized g f (m .admitted) room
 
   im : Images (page g) N A D A′ D′
-  im = images (page g) N A D (s .page-some) (s .active) (s .dfu) (m .active-bytes) (m .dfu-bytes)
+  im = images (s .paged) (m .active-bytes) (m .dfu-bytes)
 
   -- the first table is the flash itself, and the swap's last one the swap table
   start : table g A D A′ D′ t N (suc N) 0 ≡ f
   unfolding table Fresh
   start =
-      flash-path (mix-all-active (page g) N A D (s .page-some) (s .active) (s .dfu) A′ (im .active-same))
-      (mix-all-dfu (page g) N A D (s .page-some) (s .active) (s .dfu))
+      flash-path (mix-all-active (s .paged) A′ (im .active-same))
+      (mix-all-dfu (s .paged))
       (sym (fresh-marks (g .ws) t) ∙ ap (magicArea (g .ws) Swap) (sym (s .state)) ∙ sym (m .fresh))
 
   reads : Reads g N S 0 f
@@ -133,7 +133,7 @@ module _ (g : Geometry) (f : Flash) (m : Marked g f) (room : 4 * pageCount g f +
   way-there : Way g N S 0 f (swapFrom N 0) (swapTable g f)
   way-there =
       subst₂ (λ (x y : Flash). Way g N S 0 x (swapFrom N 0) y) start
-      (swapped 1 (mix-first (page g) N A D (s .page-some) (s .active) (s .dfu)))
+      (swapped 1 (mix-first (s .paged)))
       (swap-way g N t A D A′ D′ (s .ws) im N 0 (2 * N) (omega arith) (omega arith) (omega (arith, s .room)))
 
   -- ---- the swap
@@ -171,12 +171,24 @@ module _ (g : Geometry) (f : Flash) (m : Marked g f) (room : 4 * pageCount g f +
 
     back : table g A D A′ D′ t N N (4 * N) ≡ h
     unfolding table closing closed
-    back = flash-path (mix-all-active (page g) N A D (s .page-some) (s .active) (s .dfu) A′ (im .active-same)) end refl
+    back = flash-path (mix-all-active (s .paged) A′ (im .active-same)) end refl
 
     way-back : Way g N S (2 * N) (swapTable g f) (revertFrom N 0 (2 * N)) h
     way-back =
         subst₂ (λ (x y : Flash). Way g N S (2 * N) x (revertFrom N 0 (2 * N)) y) (swapped 0 (mix-none (page g) D D′)) back
         (revert-way g N t A D A′ D′ (s .ws) im N 0 (2 * N) (4 * N) (omega arith) (omega arith) (omega (arith, s .room)))
+
+    course : Course g N t A R (swapTable g f)
+    course =
+        record {
+          whole = s .whole;
+          cost = s .cost;
+          ws = s .ws;
+          page-some = s .paged .some;
+          room = s .room;
+          active = s .paged .active;
+          way = way-back;
+        }
 
     from-table : On g N S h (swapTable g f) (2 * N) (revertFrom N 0 (2 * N)) (length (revertFrom N 0 (2 * N)))
     from-table = here (swapTable g f) way-back (close-refl g (revertFrom N 0 (2 * N)) (swapTable g f))
@@ -188,16 +200,13 @@ module _ (g : Geometry) (f : Flash) (m : Marked g f) (room : 4 * pageCount g f +
         (m .admitted)
 
     abbrev Back : Flash → ℕ → Type 0
-    Back = Turning g (s .whole) (s .cost) (s .ws) (s .page-some) N t (s .room) A R (s .active) (swapTable g f) way-back
-
-    kept : (now : Flash) (rest : ℕ) → Back now rest → (k : ℕ) → k < length (bootOps g now)
-        → Kept g Back (after k (bootOps g now) now) k rest
-    kept = revert-kept g (s .whole) (s .cost) (s .ws) (s .page-some) N t (s .room) A R (s .active) (swapTable g f) way-back
+    Back = Turning course
 
     back-left : (ks : List ℕ) → AllCut g ks (swapTable g f)
         → Left g Back (runs g ks (swapTable g f)) ks (length (revertFrom N 0 (2 * N)))
     back-left ks cuts =
-        runs-left g Back kept ks (swapTable g f) (length (revertFrom N 0 (2 * N))) admits-swapped (copying from-table) cuts
+        runs-left g Back (revert-kept course) ks (swapTable g f) (length (revertFrom N 0 (2 * N))) admits-swapped
+        (copying from-table) cuts
 
     -- a run that is cut did not start at the erased state area
     not-erased : (k : ℕ) (x : Flash) → Admits g x → Cut g k x → x ≡ closed A R (replicate S erased) → ⊥
@@ -209,9 +218,7 @@ module _ (g : Geometry) (f : Flash) (m : Marked g f) (room : 4 * pageCount g f +
     place-one k now rest a on c =
         subst (λ (x : Flash). Place g (closed A R (replicate S erased)) (k + 1 ≡ length (bootOps g now)) x)
         (sym (ran-after g k now a))
-        (revert-place g (s .whole) (s .cost) (s .ws) (s .page-some) N t (s .room) A R (s .active)
-        (swapTable g f) way-back now rest on k
-        (cut-short g k now a c))
+        (revert-place course now rest on k (cut-short g k now a c))
 
     place : (ks : List ℕ) (now : Flash) (rest : ℕ) → Admits g now → Back now rest → readState (g .ws) (now .state) ≡ Swap
         → AllCut g ks now → Place g (closed A R (replicate S erased)) (OneShort g ks now) (runs g ks now)
@@ -219,7 +226,7 @@ module _ (g : Geometry) (f : Flash) (m : Marked g f) (room : 4 * pageCount g f +
     place [] now rest a on swap cuts = inr (λ e. e, swap)
     place (k ∷ []) now rest a on swap cuts = place-one k now rest a on (cuts .0)
     place (k ∷ j ∷ ks) now rest a on swap cuts =
-        let o = kept now rest on k (cut-short g k now a (cuts .0)) in
+        let o = revert-kept course now rest on k (cut-short g k now a (cuts .0)) in
         place (j ∷ ks) (ran g k now) (o .rest) (admits-ran g k now a)
         (subst (λ (x : Flash). Back x (o .rest)) (sym (ran-after g k now a)) (o .inv))
         (next (place-one k now rest a on (cuts .0))) (cuts .1)
@@ -233,8 +240,7 @@ module _ (g : Geometry) (f : Flash) (m : Marked g f) (room : 4 * pageCount g f +
     turns-back ks k w =
         subst (Turns g ks k (swapTable g f) A R) (sym (s .state))
         (go (place ks (swapTable g f) (length (revertFrom N 0 (2 * N))) admits-swapped (copying from-table) swap (w .cuts))
-        (revert-ends g (s .whole) (s .cost) (s .ws) (s .page-some) N t (s .room) A R (s .active) (swapTable g f) way-back
-        (runs g ks (swapTable g f)) (l .rest) (l .inv) k long))
+        (revert-ends course (runs g ks (swapTable g f)) (l .rest) (l .inv) k long))
       where
         swap : readState (g .ws) (swapTable g f .state) ≡ Swap
         swap = on-found g N S h (swapTable g f) from-table .reads .swap
@@ -263,13 +269,9 @@ module _ (g : Geometry) (f : Flash) (m : Marked g f) (room : 4 * pageCount g f +
         → AllCut g ks (swapTable g f) × (progress (g .ws) (runs g ks (swapTable g f) .state) ≡ 2 * N)
     back-never more ks few =
         let n : length (revertFrom N 0 (2 * N)) ≡ 2 * N = revert-count N 0 (2 * N) in
-        let o = runs-stuck g Back kept
-        (revert-short g (s .whole) (s .cost) (s .ws) (s .page-some) N t (s .room) A R (s .active) (swapTable g f) way-back)
-        ks (swapTable g f) (length (revertFrom N 0 (2 * N))) admits-swapped (copying from-table) (omega arith) few in (
-          o .0,
-          revert-at g (s .whole) (s .cost) (s .ws) (s .page-some) N t (s .room) A R (s .active) (swapTable g f) way-back
-              (runs g ks (swapTable g f)) (length (revertFrom N 0 (2 * N))) (o .1) n more,
-        )
+        let o = runs-stuck g Back (revert-kept course) (revert-short course) ks (swapTable g f) (length (revertFrom N 0 (2 * N)))
+        admits-swapped (copying from-table) (omega arith) few in
+        (o .0, revert-at course (runs g ks (swapTable g f)) (length (revertFrom N 0 (2 * N))) (o .1) n more)
 
 -- ---- the theorem
 
@@ -282,7 +284,7 @@ module _ (g : Geometry) (f : Flash) (r : Ready g f) where
   sizes = sized g f (r .marked .admitted) (r .room)
 
   end : mix (page g) (pageCount g f) (f .dfu) (newDfu (page g) (f .active) (f .dfu)) ≡ revertedDfu g f
-  end = mix-reverted (page g) (pageCount g f) (f .active) (f .dfu) (sizes .page-some) (sizes .active) (sizes .dfu) (r .some-page)
+  end = mix-reverted (sizes .paged) (r .some-page)
 
   pub turns : (ks : List ℕ) (k : ℕ) → FirstWhole g ks k (swapTable g f)
       → Turns g ks k (swapTable g f) (f .active) (revertedDfu g f) (length (f .state))
@@ -320,7 +322,7 @@ module _ (g : Geometry) (f : Flash) (m : Marked g f) (none : pageCount g f ≡ 0
 
   -- active is empty
   empty : length (f .active) ≡ 0
-  empty = fits .active ∙ ap (λ (n : ℕ). n * page g) none ∙ zero-mul (page g)
+  empty = fits .paged .active ∙ ap (λ (n : ℕ). n * page g) none ∙ zero-mul (page g)
 
   same-dfu : newDfu (page g) (f .active) (f .dfu) ≡ f .dfu
   unfolding newDfu

@@ -101,9 +101,16 @@ data Reverts (g : Geometry) (N S : ℕ) (h void gone done now : Flash) (rest k :
       → Reverts g N S h void gone done now rest k os
 
 -- N pages, whose way back from f₀ ends with the images A and R and 4N marks of t
-module _ (g : Geometry) (whole : page g / g .b * g .b ≡ page g) (cost : 3 ≤ stepCost g) (ws : 0 < g .ws) (p : 0 < page g)
-    (N t : ℕ) (room : 4 * N < t) (A R : List ℕ) (lengthA : length A ≡ N * page g) (f₀ : Flash)
-    (way : Way g N ((2 + t) * g .ws) (2 * N) f₀ (revertFrom N 0 (2 * N)) (closing g A R t (4 * N) erased)) where
+pub record Course (g : Geometry) (N t : ℕ) (A R : List ℕ) (f₀ : Flash) : Type 0 where
+  pub whole : page g / g .b * g .b ≡ page g
+  pub cost : 3 ≤ stepCost g
+  pub ws : 0 < g .ws
+  pub page-some : 0 < page g
+  pub room : 4 * N < t
+  pub active : length A ≡ N * page g
+  pub way : Way g N ((2 + t) * g .ws) (2 * N) f₀ (revertFrom N 0 (2 * N)) (closing g A R t (4 * N) erased)
+
+module _ {g : Geometry} {N t : ℕ} {A R : List ℕ} {f₀ : Flash} (course : Course g N t A R f₀) where
   abbrev S : ℕ
   S = (2 + t) * g .ws
 
@@ -129,20 +136,20 @@ module _ (g : Geometry) (whole : page g / g .b * g .b ≡ page g) (cost : 3 ≤ 
   close-erased : (v : ℕ) → apply (erase state 0 S) (apply (invalidateOp (g .ws)) (closing g A R t (4 * N) v)) ≡ gone
   unfolding closing
   close-erased v =
-      ap (apply (erase state 0 S)) (voids g A R t (4 * N) room v)
-      ∙ wiped A R S (spread (g .ws) (marks marked (4 * N) (t - 4 * N))) (state-size g A R t (4 * N) room marked)
+      ap (apply (erase state 0 S)) (voids g A R t (4 * N) (course .room) v)
+      ∙ wiped A R S (spread (g .ws) (marks marked (4 * N) (t - 4 * N))) (state-size g A R t (4 * N) (course .room) marked)
 
   close-cut : (v : ℕ) → Turning (closing g A R t (4 * N) v) 0 → (j : ℕ) → j < 3
       → Turning (applyAll (take j (closeOps g S)) (closing g A R t (4 * N) v)) 0
   unfolding applyAll closeOps closing
   close-cut v on zero less = on
-  close-cut v on (suc zero) less = voided (voids g A R t (4 * N) room v)
+  close-cut v on (suc zero) less = voided (voids g A R t (4 * N) (course .room) v)
   close-cut v on (suc (suc zero)) less = emptied (close-erased v)
   close-cut v on (suc (suc (suc j))) less = absurd (omega arith)
 
   closing-swap : (v : ℕ) → readState (g .ws) (closing g A R t (4 * N) v .state) ≡ Swap
   unfolding closing closed
-  closing-swap v = reads-swap (g .ws) ws v (4 * N) (t - 4 * N) (omega arith)
+  closing-swap v = reads-swap (g .ws) (course .ws) v (4 * N) (t - 4 * N) (omega (arith, course .room))
 
   close-place : (v j : ℕ) → j < 3 → Place g gone (j + 1 ≡ 3) (applyAll (take j (closeOps g S)) (closing g A R t (4 * N) v))
   unfolding applyAll closeOps closing
@@ -150,7 +157,7 @@ module _ (g : Geometry) (whole : page g / g .b * g .b ≡ page g) (cost : 3 ≤ 
   close-place v (suc zero) less =
       inr (
         λ e. omega arith,
-        ap (λ (x : Flash). readState (g .ws) (x .state)) (voids g A R t (4 * N) room v)
+        ap (λ (x : Flash). readState (g .ws) (x .state)) (voids g A R t (4 * N) (course .room) v)
             ∙ closing-swap marked,
       )
   close-place v (suc (suc zero)) less = inl (refl, close-erased v)
@@ -158,7 +165,8 @@ module _ (g : Geometry) (whole : page g / g .b * g .b ≡ page g) (cost : 3 ≤ 
 
   close-all : (v : ℕ) → applyAll (closeOps g S) (closing g A R t (4 * N) v) ≡ done
   unfolding closing
-  close-all v = finished A R g S (spread (g .ws) (marks v (4 * N) (t - 4 * N))) (state-size g A R t (4 * N) room v) (omega arith)
+  close-all v =
+      finished A R g S (spread (g .ws) (marks v (4 * N) (t - 4 * N))) (state-size g A R t (4 * N) (course .room) v) (omega arith)
 
   -- the steps that were left, then the last three operations
   tail-run : (v : ℕ) → Turning (closing g A R t (4 * N) v) 0 → (now : Flash) (rest k : ℕ) (os : List Op) → length os ≤ k
@@ -193,10 +201,10 @@ module _ (g : Geometry) (whole : page g / g .b * g .b ≡ page g) (cost : 3 ≤ 
   unfolding closing closed pageCount pages
   void-reads =
       record {
-        swap = reads-swap (g .ws) ws marked (4 * N) (t - 4 * N) (omega arith);
-        paged = ap (λ (l : ℕ). l / page g) lengthA ∙ mul-div-cancel N p;
-        sized = state-size g A R t (4 * N) room marked;
-        done = progress-void (g .ws) ws (4 * N) (t - 4 * N) (omega arith);
+        swap = reads-swap (g .ws) (course .ws) marked (4 * N) (t - 4 * N) (omega (arith, course .room));
+        paged = ap (λ (l : ℕ). l / page g) (course .active) ∙ mul-div-cancel N (course .page-some);
+        sized = state-size g A R t (4 * N) (course .room) marked;
+        done = progress-void (g .ws) (course .ws) (4 * N) (t - 4 * N) (omega (arith, course .room));
       }
 
   void-run : (k : ℕ) → Turned void 0 k (bootOps g void)
@@ -213,7 +221,8 @@ module _ (g : Geometry) (whole : page g / g .b * g .b ≡ page g) (cost : 3 ≤ 
 
   copy-run : (now : Flash) (rest : ℕ) → On g N S h now (2 * N) (revertFrom N 0 (2 * N)) rest → (k : ℕ)
       → Turned now rest k (bootOps g now)
-  copy-run now rest on k = subst (λ (os : List Op). Turned now rest k os) (sym wants) (go (run-on g whole N S h now on k))
+  copy-run now rest on k =
+      subst (λ (os : List Op). Turned now rest k os) (sym wants) (go (run-on g (course .whole) N S h now on k))
     where
       cs : List Copy
       cs = revertFrom N 0 (2 * N)
@@ -239,7 +248,7 @@ module _ (g : Geometry) (whole : page g / g .b * g .b ≡ page g) (cost : 3 ≤ 
 
       go : Outcome g N S h (2 * N) cs rest now k os → Turned now rest k (os ++ closeOps g S)
       go (through l d none) =
-          tail-run erased (copying (on-end g N S h cs (2 * N) f₀ way)) now rest k os l d (r .reads .swap)
+          tail-run erased (copying (on-end g N S h cs (2 * N) f₀ (course .way))) now rest k os l d (r .reads .swap)
           (λ x y. some x y (decLe 1 rest)) none
       go (stopped l c z b gain still o) =
           let at : applyAll (take k (os ++ closeOps g S)) now ≡ applyAll (take k os) now =
@@ -255,7 +264,7 @@ module _ (g : Geometry) (whole : page g / g .b * g .b ≡ page g) (cost : 3 ≤ 
   revert-run : (now : Flash) (rest : ℕ) → Turning now rest → (k : ℕ) → Turned now rest k (bootOps g now)
   revert-run now rest (copying on) k = copy-run now rest on k
   revert-run now rest (voided e) k = subst (λ (x : Flash). Turned x 0 k (bootOps g x)) (sym e) (void-run k)
-  revert-run now rest (emptied e) k = idle e (ap (bootOps g) e ∙ boot-idle g A R t ws) refl
+  revert-run now rest (emptied e) k = idle e (ap (bootOps g) e ∙ boot-idle g A R t (course .ws)) refl
 
   pub revert-kept : (now : Flash) (rest : ℕ) → Turning now rest → (k : ℕ) → k < length (bootOps g now)
       → Kept g Turning (after k (bootOps g now) now) k rest

@@ -23,13 +23,19 @@ use Rattle.power.proofs.Pages.{mix, pages-le, page-take, page-append-le
 use Rattle.power.proofs.Words.{spread, marks, spread-append, spread-replicate}
 use Rattle.power.proofs.Tables.{Images}
 
--- ---- the images: A of N pages of p bytes, D at least a page longer
+-- ---- the images
 
 -- DFU after the swap: its first page, the old active image, and what lay behind
 unfoldable pub newDfu : ℕ → List ℕ → List ℕ → List ℕ
 newDfu p A D = take p D ++ (A ++ drop (p + length A) D)
 
-module _ (p N : ℕ) (A D : List ℕ) (some : 0 < p) (lengthA : length A ≡ N * p) (lengthD : N * p + p ≤ length D) where
+-- A of N pages of p bytes, D at least a page longer
+pub record Paged (p N : ℕ) (A D : List ℕ) : Type 0 where
+  pub some : 0 < p
+  pub active : length A ≡ N * p
+  pub dfu : N * p + p ≤ length D
+
+module _ {p N : ℕ} {A D : List ℕ} (q : Paged p N A D) where
   first : length (take p D) ≡ p
   first = length-take-le p D (omega arith)
 
@@ -38,9 +44,9 @@ module _ (p N : ℕ) (A D : List ℕ) (some : 0 < p) (lengthA : length A ≡ N *
   images hA hD =
       let a : length (take (length A) D) ≡ length A = length-take-le (length A) D (omega arith) in
       record {
-        some = some;
-        active = lengthA;
-        dfu = lengthD;
+        some = q .some;
+        active = q .active;
+        dfu = q .dfu;
         active-same = a;
         dfu-same = simp (length-append, length-drop) (omega (arith, first));
         active-bytes = hA;
@@ -91,13 +97,13 @@ module _ (p N : ℕ) (A D : List ℕ) (some : 0 < p) (lengthA : length A ≡ N *
       let n : N ≡ suc k = omega arith in
       let np : N * p ≡ suc k * p = ap (λ (z : ℕ). z * p) n in
       let e : N * p ≡ length (take p D) + k * p = omega (arith, np, first) in
-      let q : p + length A ≡ N * p + p = omega arith in
+      let z : p + length A ≡ N * p + p = omega arith in
       let s : length (drop (k * p) A) ≤ p = simp length-drop (omega (arith, np)) in
       ap (λ (r : List ℕ). take (N * p) D ++ r)
       (ap (λ (z : ℕ). drop z (newDfu p A D)) e
       ∙ drop-append-add (take p D) (A ++ drop (p + length A) D) (k * p)
       ∙ drop-append-le (k * p) A (drop (p + length A) D) (omega (arith, np))
-      ∙ ap₂ (λ (l : List ℕ) (z : ℕ). l ++ drop z D) (sym (take-all p (drop (k * p) A) s)) q)
+      ∙ ap₂ (λ (l : List ℕ) (z : ℕ). l ++ drop z D) (sym (take-all p (drop (k * p) A) s)) z)
 
 -- none of xs
 pub mix-none : (p : ℕ) (xs ys : List ℕ) → mix p 0 xs ys ≡ ys
@@ -137,11 +143,9 @@ some-factor (suc n) b p e h = suc-le-suc zero-le
 -- N pages, a state area of 2 + t words with more than 4N marks, and the last three operations of a revert cost no more than a step
 pub record Sized (g : Geometry) (f : Flash) (t : ℕ) : Type 0 where
   pub ws : 0 < g .ws
-  pub page-some : 0 < page g
+  pub paged : Paged (page g) (pageCount g f) (f .active) (f .dfu)
   pub cost : 3 ≤ stepCost g
   pub whole : page g / g .b * g .b ≡ page g
-  pub active : length (f .active) ≡ pageCount g f * page g
-  pub dfu : pageCount g f * page g + page g ≤ length (f .dfu)
   pub state : length (f .state) ≡ (2 + t) * g .ws
   pub room : 4 * pageCount g f < t
 
@@ -161,11 +165,9 @@ sized g f r room =
     let chunks : 0 < page g / g .b = some-factor (page g / g .b) (g .b) (page g) whole p in
     record {
       ws = a .numbers .ws .some;
-      page-some = p;
+      paged = record { some = p; active = sym active; dfu = omega (arith, a .dfu-longer, active) };
       cost = omega arith;
       whole = whole;
-      active = sym active;
-      dfu = omega (arith, a .dfu-longer, active);
       state = sym full ∙ ap (λ (n : ℕ). n * g .ws) two;
       room = omega arith;
     }

@@ -1,4 +1,4 @@
--- Document 01, "What the power may do", and demand 3 of the mission: the statement. The tables are those of the crate
+-- Document 01, "What the power may do", and demand 3 of the request: the statement. The tables are those of the crate
 -- `rules`, a run is a call of prepare_boot with a budget, and no step is run here. Proved in proofs/Proved. Assumes nothing.
 use mathlib.Core.Path.{_≡_}
 use mathlib.Core.Option.{some}
@@ -7,6 +7,7 @@ use Prim.Native.Nat.{ℕ, _+_, _*_, _≤_, _<_}
 use lib.ListN.{length, replicate}
 use Rattle.state.specs.declared.State.{State}
 use Rattle.state.specs.declared.State.the-variants.{Boot, Swap, Revert}
+use Rattle.state.specs.Magic.{erased}
 use Rattle.geometry.specs.declared.Geometry.{Geometry}
 use Rattle.geometry.specs.Geometry.{words}
 use Rattle.geometry.specs.Refusals.{bootRefusal}
@@ -15,7 +16,6 @@ use Rattle.rules.specs.StateArea.{progress}
 use Rattle.rules.specs.Steps.{pageCount}
 use Rattle.rules.specs.Calls.{Report, report, left}
 use Rattle.rules.specs.Boot.{prepareBoot}
-use Rattle.state.specs.Magic.{erased}
 use Rattle.rules.specs.Power.{magicArea, Fresh, swapTable, reverted, revertedErased, stepCost}
 
 -- ---- where the runs start
