@@ -3,7 +3,7 @@ use mathlib.Core.Path.{_≡_, refl, ap, _∙_}
 use mathlib.Core.List.{List, [], _∷_, _++_}
 use Prim.Native.Nat.{ℕ, _+_, _≤_}
 use lib.ListN.{length, take}
-use lib.Seq.{take-append-le, take-append-add, take-all}
+use lib.Seq.{take-nil, take-append-le, take-append-add, take-all}
 use Rattle.mem_flash.specs.Flash.{Area, active, dfu, state, Flash, Op, erase, write, erasedAt, writtenAt, change, apply, applyAll, after}
 use Rattle.mem_flash.specs.Run.{placed}
 use Rattle.rules.specs.Steps.{sourceOf}
@@ -28,6 +28,10 @@ cut-past j os ps f = ap (λ (l : List Op). applyAll l f) (take-append-add os ps 
 pub after-all : (k : ℕ) (os : List Op) (f : Flash) → length os ≤ k → after k os f ≡ applyAll os f
 unfolding after
 after-all k os f h = ap (λ (l : List Op). applyAll l f) (take-all k os h)
+
+pub after-none : (k : ℕ) (f : Flash) → after k [] f ≡ f
+unfolding after applyAll
+after-none k f = ap (λ (os : List Op). applyAll os f) (take-nil k)
 
 -- ---- one area of a flash
 

@@ -71,7 +71,7 @@ module _ (c : Call) (table : c .refusal < 7) where
   is-cut k (done z l) e = absurd (omega (arith, ap numberOf (report-done c k z l)))
   is-cut k (cut z l) e = (z, l)
 
-  is-done : (k : ℕ) → Ending c k → report c k .number ≡ 0 → (c .refusal ≡ 0) × (length (c .ops) ≤ k)
+  pub is-done : (k : ℕ) → Ending c k → report c k .number ≡ 0 → (c .refusal ≡ 0) × (length (c .ops) ≤ k)
   is-done k (refused r) e = absurd (omega (arith, ap numberOf (report-refused c k r)))
   is-done k (done z l) e = (z, l)
   is-done k (cut z l) e = absurd (omega (arith, ap numberOf (report-cut c k z l)))
@@ -119,7 +119,7 @@ pub boot-rows : (g : Geometry) (la ld ls : ℕ) → bootRefusal g la ld ls < 7
 unfolding bootRefusal
 boot-rows g la ld ls = lowest-below _ (lit< tt)
 
-state-rows : (es ws ls : ℕ) → stateRefusal es ws ls < 7
+pub state-rows : (es ws ls : ℕ) → stateRefusal es ws ls < 7
 unfolding stateRefusal
 state-rows es ws ls = lowest-below _ (lit< tt)
 

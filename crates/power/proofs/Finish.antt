@@ -1,10 +1,11 @@
 -- The three operations that end a revert, on a state area that may hold anything: invalidate, erase the state area, write the
--- magic. Cited by Reverted, Proved, Counts and Settled. Assumes nothing.
+-- magic; the last two are those of every mark. Cited by Reverted, Proved, Counts, Settled and Marking. Assumes nothing.
 use mathlib.Core.Path.{_≡_, refl, sym, ap, _∙_}
 use mathlib.Core.List.{List, [], _∷_, _++_, append-nil}
 use Prim.Native.Nat.{ℕ, _+_, _-_, _≤_}
 use native.Mathlib.Omega.{arith}
 use lib.ListN.{length, replicate, length-replicate, replicate-append-replicate, drop-of-length-le}
+use Rattle.state.specs.declared.State.{State}
 use Rattle.state.specs.declared.State.the-variants.{Revert}
 use Rattle.state.specs.Magic.{erased, marked, magic}
 use Rattle.geometry.specs.declared.Geometry.{Geometry}
@@ -49,24 +50,28 @@ module _ (A R : List ℕ) where
       ∙ ap (λ (l : List ℕ). replicate n erased ++ l) (drop-of-length-le st {i = 0 + n} (omega arith))
       ∙ append-nil (replicate n erased))
 
-  pub signed : (w n : ℕ) → w ≤ n
-      → apply (magicOp w (magic Revert)) (closed A R (replicate n erased)) ≡ closed A R (magicArea w Revert n)
+  pub signed : (s : State) (w n : ℕ) → w ≤ n
+      → apply (magicOp w (magic s)) (closed A R (replicate n erased)) ≡ closed A R (magicArea w s n)
   unfolding magicOp apply change closed magicArea
-  signed w n h =
+  signed s w n h =
       let r : ℕ = n - w in
       let e : n ≡ w + r = omega arith in
       flash-path refl refl
-      (ap (writtenAt 0 (replicate w (magic Revert)))
+      (ap (writtenAt 0 (replicate w (magic s)))
       (ap (λ (z : ℕ). replicate z erased) e ∙ sym (replicate-append-replicate w r erased))
-      ∙ written-erased [] (replicate w (magic Revert)) (replicate r erased) 0 w refl (length-replicate w (magic Revert))
-      (bytes-replicate w (magic Revert) (magic-byte Revert)))
+      ∙ written-erased [] (replicate w (magic s)) (replicate r erased) 0 w refl (length-replicate w (magic s))
+      (bytes-replicate w (magic s) (magic-byte s)))
 
-  -- all three
+  -- the erase and the magic of any state, then all three of a revert
+  pub renewed : (s : State) (es w n : ℕ) (st : List ℕ) → length st ≡ n → w ≤ n
+      → applyAll (renewOps es w n (magic s)) (closed A R st) ≡ closed A R (magicArea w s n)
+  unfolding renewOps eraseOps applyAll
+  renewed s es w n st e h = ap (apply (magicOp w (magic s))) (wiped n st e) ∙ signed s w n h
+
   pub finished : (g : Geometry) (n : ℕ) (st : List ℕ) → length st ≡ n → g .ws ≤ n
       → applyAll (closeOps g n) (closed A R st) ≡ closed A R (magicArea (g .ws) Revert n)
-  unfolding applyAll closeOps
+  unfolding applyAll closeOps renewOps eraseOps
   finished g n st e h =
-      ap (λ (x : Flash). apply (magicOp (g .ws) (magic Revert)) (apply (erase state 0 n) x)) (invalidated (g .ws) st)
-      ∙ ap (apply (magicOp (g .ws) (magic Revert)))
-      (wiped n (writtenAt (g .ws) (replicate (g .ws) marked) st) (length-written (g .ws) (replicate (g .ws) marked) st ∙ e))
-      ∙ signed (g .ws) n h
+      ap (applyAll (renewOps (g .es) (g .ws) n (magic Revert))) (invalidated (g .ws) st)
+      ∙ renewed Revert (g .es) (g .ws) n (writtenAt (g .ws) (replicate (g .ws) marked) st)
+      (length-written (g .ws) (replicate (g .ws) marked) st ∙ e) h

@@ -20,3 +20,4 @@ pub mod ByPages
 pub mod Inside
 pub mod Marks
 pub mod Settled
+pub mod Marking

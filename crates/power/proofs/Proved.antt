@@ -8,7 +8,6 @@ use Prim.Native.Nat.{ℕ, zero, suc, _+_, _-_, _*_, _≤_}
 use native.Mathlib.Nat.{zero-mul}
 use native.Mathlib.Omega.{arith}
 use lib.ListN.{length, take, drop, replicate, take-append-drop}
-use lib.Seq.{take-nil}
 use Rattle.state.specs.declared.State.{State}
 use Rattle.state.specs.declared.State.the-variants.{Boot, Swap, Revert}
 use Rattle.state.specs.Magic.{erased}
@@ -16,14 +15,14 @@ use Rattle.geometry.specs.declared.Geometry.{Geometry}
 use Rattle.geometry.specs.Geometry.{page, pages, words}
 use Rattle.geometry.proofs.Rows.{admitted}
 use Rattle.geometry.proofs.Tests.{boot-words-none}
-use Rattle.mem_flash.specs.Flash.{Flash, Op, applyAll, after}
+use Rattle.mem_flash.specs.Flash.{Flash, Op, after}
 use Rattle.rules.specs.StateArea.{readState, progress}
 use Rattle.rules.specs.Steps.{swapFrom, revertFrom, pageCount}
 use Rattle.rules.specs.Calls.{Report}
 use Rattle.rules.specs.Boot.{finishOps, bootOps, prepareBoot}
 use Rattle.rules.specs.Power.{magicArea, Fresh, swapMarks, swapTable, pageAt, withPage, revertImages, reverted, revertedErased, stepCost}
 use Rattle.power.specs.Power.{Marked, Ready, ran, Cut, runs, AllCut, FirstWhole, OneShort, Ends, Rests, AllBelow, Power, NoPages}
-use Rattle.power.proofs.Areas.{flash-path}
+use Rattle.power.proofs.Areas.{after-none, flash-path}
 use Rattle.power.proofs.Pages.{mix}
 use Rattle.power.proofs.Finish.{closed, finish-count}
 use Rattle.power.proofs.Way.{Reads, Way, On, here, on-found, close-refl}
@@ -67,7 +66,6 @@ module _ (g : Geometry) (ks : List ℕ) (k : ℕ) (f : Flash) (a : Admits g (run
       }
 
   rests-at : (h : Flash) → runs g ks f ≡ h → bootOps g h ≡ [] → readState (g .ws) (h .state) ≡ Boot → Rests g ks k f h
-  unfolding after applyAll
   rests-at h e none boot =
       let n : bootOps g (runs g ks f) ≡ [] = ap (bootOps g) e ∙ none in
       record {
@@ -76,14 +74,9 @@ module _ (g : Geometry) (ks : List ℕ) (k : ℕ) (f : Flash) (a : Admits g (run
             answer-done g k (runs g ks f) a long
             ∙ ap₂ (λ (s : State) (c : ℕ). record { number = 0; state = some s; count = c })
             (ap (λ (x : Flash). readState (g .ws) (x .state)) e ∙ boot) (ap length n);
-        flash = ran-after g k (runs g ks f) a ∙ ap (λ (os : List Op). after k os (runs g ks f)) n ∙ nothing k (runs g ks f) ∙ e;
+        flash =
+            ran-after g k (runs g ks f) a ∙ ap (λ (os : List Op). after k os (runs g ks f)) n ∙ after-none k (runs g ks f) ∙ e;
       }
-    where
-      nothing : (j : ℕ) (x : Flash) → applyAll (take j []) x ≡ x
-      nothing j x = ap (λ (os : List Op). applyAll os x) (none-taken j)
-        where
-          none-taken : (i : ℕ) → _≡_ {A = List Op} (take i []) []
-          none-taken i = take-nil i
 
 module _ (g : Geometry) (f : Flash) (m : Marked g f) (room : 4 * pageCount g f + 3 ≤ words (g .ws) (length (f .state))) where
   abbrev t : ℕ

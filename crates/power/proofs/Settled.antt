@@ -9,7 +9,7 @@ use native.Mathlib.Nat.{zero-mul, eq-or-lt-of-le, lt-of-not-le, mul-le-mul-right
 use native.Mathlib.Decide.{decLe}
 use native.Mathlib.Omega.{arith}
 use lib.ListN.{length, take, drop, replicate, length-replicate}
-use lib.Seq.{take-at, take-nil}
+use lib.Seq.{take-at}
 use Rattle.state.specs.declared.State.{State}
 use Rattle.state.specs.declared.State.the-variants.{Boot, Swap, Revert, DfuDetach}
 use Rattle.state.specs.Magic.{erased, marked, magic, stateOf}
@@ -29,7 +29,7 @@ use Rattle.power.specs.Settles.{Quiet, Settles}
 use Rattle.power.proofs.Bytes.{chunked}
 use Rattle.power.proofs.Words.{revert-reads}
 use Rattle.power.proofs.Marks.{withMark, same-state, mark-passes}
-use Rattle.power.proofs.Areas.{apply-append, after-all, placed-same, Image, state-placed, all-lengths}
+use Rattle.power.proofs.Areas.{apply-append, after-all, after-none, placed-same, Image, state-placed, all-lengths}
 use Rattle.power.proofs.Steps.{fill-placed}
 use Rattle.power.proofs.Finish.{closed, closeOps, finish-close, finished}
 use Rattle.power.proofs.Way.{Reads, once-skip, once-do}
@@ -181,14 +181,12 @@ module _ (g : Geometry) (f : Flash) (a : Admits g f) where
 
   -- where nothing is wanted, nothing is done
   quiet : bootOps g f ≡ [] → Quiet g f
-  unfolding after applyAll
   quiet e =
       record {
         done = λ k. ap (λ (t : Report). t .number) (idle k);
         count = λ k. ap (λ (t : Report). t .count) (idle k) ∙ ap length e;
         flash = λ k.
-            ran-after g k f a ∙ ap (λ (os : List Op). after k os f) e
-            ∙ ap (λ (os : List Op). applyAll os f) (take-nil {A = Op} k);
+            ran-after g k f a ∙ ap (λ (os : List Op). after k os f) e ∙ after-none k f;
       }
     where
       idle : (k : ℕ) → answer g k f

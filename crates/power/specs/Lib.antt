@@ -5,3 +5,4 @@ pub mod Alike
 pub mod Pages
 pub mod Inside
 pub mod Settles
+pub mod Marking

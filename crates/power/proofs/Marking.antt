@@ -1,0 +1,104 @@
+-- What a mark leaves (specs/Marking): `marking` for each of the three marks, `update-is-fresh` for mark_updated. Assumes nothing.
+use mathlib.Core.Path.{_≡_, refl, sym, ap, _∙_}
+use mathlib.Core.Bool.{Bool, true, false}
+use mathlib.Core.List.{List, [], _∷_, _++_}
+use Prim.Native.Nat.{ℕ, _+_, _/_, _≤_, _<_}
+use native.Mathlib.Nat.{mul-le-mul-right, div-mul-le-self}
+use native.Mathlib.Omega.{arith}
+use lib.Dec.{lit<}
+use lib.ListN.{length, take, replicate}
+use borrow.Author.Tests.{ltb-false}
+use Rattle.state.specs.declared.State.{State}
+use Rattle.state.specs.declared.State.the-variants.{Swap}
+use Rattle.state.specs.Choice.{pick}
+use Rattle.state.specs.Magic.{marked, magic, throughout}
+use Rattle.geometry.specs.declared.Geometry.{Geometry}
+use Rattle.geometry.specs.Geometry.{words}
+use Rattle.geometry.specs.Refusals.{lowest, badState, otherWords, stateRefusal}
+use Rattle.geometry.proofs.Tests.{any-none, row-none}
+use Rattle.mem_flash.specs.Flash.{Flash, Op, writtenAt, applyAll, after}
+use Rattle.rules.specs.StateArea.{word, valid, invalidateOp}
+use Rattle.rules.specs.Calls.{Call, left}
+use Rattle.rules.specs.Boot.{renewOps}
+use Rattle.rules.specs.FirmwareState.{setMagicOps, mark}
+use Rattle.rules.specs.Power.{magicArea, Fresh}
+use Rattle.power.specs.Power.{restated}
+use Rattle.power.specs.Marking.{Marking, UpdateIsFresh}
+use Rattle.power.proofs.Bytes.{length-written}
+use Rattle.power.proofs.Areas.{after-all, after-none, all-lengths}
+use Rattle.power.proofs.Finish.{closed, invalidated, renewed}
+use Rattle.power.proofs.Cuts.{Ending, refused, done, cut, ending, left-refused, left-admitted, state-rows, is-done}
+
+-- an admitted state area has a word, whatever it holds
+state-word : (es ws ls : ℕ) → stateRefusal es ws ls ≡ 0 → ws ≤ ls
+unfolding stateRefusal lowest badState otherWords words
+state-word es ws ls r =
+    let a = row-none _ _ _ (lit< tt) r in
+    let b = row-none _ _ _ (lit< tt) (a .1) in
+    let c = row-none _ _ _ (lit< tt) (b .1) in
+    let d = row-none _ _ _ (lit< tt) (c .1) in
+    let e = any-none _ _ (any-none _ _ (d .0) .1) in
+    let two : 2 ≤ ls / ws = ltb-false (ls / ws) 2 (any-none _ _ (e .1) .0) in
+    omega (arith, mul-le-mul-right {m = 2} {n = ls / ws} ws two, div-mul-le-self ls ws)
+
+-- a call without operations leaves the flash, and every call leaves the state area's length
+idle : (c : Call) (k : ℕ) (f : Flash) → c .ops ≡ [] → Ending c k → left c k f ≡ f
+idle c k f e (refused r) = left-refused c k f r
+idle c k f e (done z l) = left-admitted c k f z ∙ ap (λ (os : List Op). after k os f) e ∙ after-none k f
+idle c k f e (cut z l) = left-admitted c k f z ∙ ap (λ (os : List Op). after k os f) e ∙ after-none k f
+
+left-length : (c : Call) (k : ℕ) (f : Flash) → Ending c k → length (left c k f .state) ≡ length (f .state)
+unfolding after
+left-length c k f (refused r) = ap (λ (x : Flash). length (x .state)) (left-refused c k f r)
+left-length c k f (done z l) =
+    ap (λ (x : Flash). length (x .state)) (left-admitted c k f z) ∙ all-lengths (take k (c .ops)) f .state
+left-length c k f (cut z l) =
+    ap (λ (x : Flash). length (x .state)) (left-admitted c k f z) ∙ all-lengths (take k (c .ops)) f .state
+
+module _ (s : State) (es ws : ℕ) (f : Flash) where
+  abbrev st : List ℕ
+  st = f .state
+
+  -- the invalidation, if the progress is valid, and then the renewal
+  marked-state : (b : Bool) → ws ≤ length st
+      → applyAll (pick b (invalidateOp ws ∷ []) [] ++ renewOps es ws (length st) (magic s)) f
+      ≡ restated (magicArea ws s (length st)) f
+  unfolding pick applyAll closed
+  marked-state true fit =
+      ap (applyAll (renewOps es ws (length st) (magic s))) (invalidated (f .active) (f .dfu) ws st)
+      ∙ renewed (f .active) (f .dfu) s es ws (length st) (writtenAt ws (replicate ws marked) st)
+      (length-written ws (replicate ws marked) st) fit
+  marked-state false fit = renewed (f .active) (f .dfu) s es ws (length st) st refl fit
+
+  abbrev call : Call
+  call = mark s es ws st
+
+  pub marking : (k : ℕ) → Marking s es ws f k
+  unfolding mark setMagicOps pick
+  marking k =
+      record {
+        already = λ e. same (none e) (ending call k);
+        fresh = λ e r. fresh e
+            (is-done call (state-rows es ws _) k (ending call k) r);
+      }
+    where
+      none : throughout (magic s) (word ws 0 st) ≡ true → call .ops ≡ []
+      none e = rw e
+
+      same : call .ops ≡ [] → Ending call k → left call k f ≡ f
+      same e x = idle call k f e x
+
+      fresh : throughout (magic s) (word ws 0 st) ≡ false → (call .refusal ≡ 0) × (length (call .ops) ≤ k)
+          → left call k f ≡ restated (magicArea ws s (length st)) f
+      fresh e d =
+          left-admitted call k f (d .0) ∙ after-all k (call .ops) f (d .1)
+          ∙ ap (λ (b : Bool). applyAll (pick b []
+          (pick (valid ws st) (invalidateOp ws ∷ []) [] ++ renewOps es ws (length st) (magic s))) f) e
+          ∙ marked-state (valid ws st) (state-word es ws (length st) (d .0))
+
+pub update-is-fresh : (g : Geometry) (f : Flash) (k : ℕ) → UpdateIsFresh g f k
+unfolding Fresh
+update-is-fresh g f k e r =
+    let c : Call = mark Swap (g .es) (g .ws) (f .state) in
+    ap (λ (x : Flash). x .state) (marking Swap (g .es) (g .ws) f k .fresh e r)
+    ∙ ap (magicArea (g .ws) Swap) (sym (left-length c k f (ending c k)))
