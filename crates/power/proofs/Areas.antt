@@ -1,4 +1,4 @@
--- Laws of lists of operations, and of one area of a flash among the three. Cited by every proof file here. Assumes nothing.
+-- Laws of lists of operations, and of one area of a flash among the three. Cited throughout this crate. Assumes nothing.
 use mathlib.Core.Path.{_≡_, refl, ap, _∙_}
 use mathlib.Core.List.{List, [], _∷_, _++_}
 use Prim.Native.Nat.{ℕ, _+_, _≤_}

@@ -1,5 +1,5 @@
--- Laws of an area's bytes under erases and writes: what a stretch may hold without the rest being touched (`Beside`), and what
--- a page holds that is erased and filled in chunks. Cited by Erases and Steps. Of the byte rule they use that an erased byte
+-- Laws of an area's bytes under erases and writes: what a stretch may hold without the rest being touched (`Beside`), and what a
+-- page holds that is erased and filled in chunks. Cited throughout this crate. Of the byte rule they use that an erased byte
 -- takes what is written. Assumes nothing.
 use mathlib.Core.Path.{_≡_, refl, sym, ap, ap₂, _∙_, subst}
 use mathlib.Core.List.{List, [], _∷_, _++_, append-assoc}

@@ -1,5 +1,5 @@
 -- The laws of every call under every budget (specs/Cuts): `lawful` for any call with a number of the table, `every-call` for
--- those of the crate. The first section is what Runs cites of prepare_boot. Assumes nothing.
+-- those of the crate. Runs and Marking cite the first section. Assumes nothing.
 use mathlib.Core.Path.{_≡_, sym, ap, _∙_}
 use mathlib.Core.Bool.{Bool, true, false}
 use mathlib.Core.Option.{none}

@@ -1,5 +1,6 @@
 -- Laws of an erase as a list of operations, for an area that may hold anything in the stretch: whole, cut, counted and placed.
--- Every other file knows an erase by these laws alone. Assumes nothing.
+-- Every other file knows an erase by these laws alone, but for Finish, which takes the state's erase as one operation of three.
+-- Assumes nothing.
 use mathlib.Core.Path.{_≡_, refl, ap, _∙_, subst}
 use mathlib.Core.List.{List}
 use Prim.Native.Nat.{ℕ, zero, suc, _+_, _≤_}

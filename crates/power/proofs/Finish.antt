@@ -1,5 +1,5 @@
 -- The three operations that end a revert, on a state area that may hold anything: invalidate, erase the state area, write the
--- magic; the last two are those of every mark. Cited by Reverted, Proved, Counts, Settled and Marking. Assumes nothing.
+-- magic; the last two are those of every mark. Cited by Reverted, Settled and Marking, and by Counts. Assumes nothing.
 use mathlib.Core.Path.{_≡_, refl, sym, ap, _∙_}
 use mathlib.Core.List.{List, [], _∷_, _++_, append-nil}
 use Prim.Native.Nat.{ℕ, _+_, _-_, _≤_}

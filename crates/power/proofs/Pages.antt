@@ -1,5 +1,6 @@
--- Laws of an image in pages of p bytes: a page of it, another page put in, and two images mixed at a page's edge. Every stage
--- of a swap and of a revert is such a mix, and a step moves the edge by one page. Cited by Tables and Start. Assumes nothing.
+-- Laws of an image in pages of p bytes: a page of it, another page put in, and two images mixed at a page's edge. Every stage of
+-- a swap and of a revert is such a mix, and a step moves the edge by one page. Cited by Tables and Start, and by ByPages and
+-- Inside. Assumes nothing.
 use mathlib.Core.Path.{_≡_, sym, ap, ap₂, _∙_}
 use mathlib.Core.List.{List, [], _∷_, _++_, append-assoc}
 use Prim.Native.Nat.{ℕ, zero, suc, _+_, _-_, _*_, _≤_, _<_}

@@ -4,7 +4,7 @@ use mathlib.Core.Path.{_≡_, refl, sym, ap, ap₂, _∙_, subst, subst₂}
 use mathlib.Core.Logic.{_⊎_, inl, inr}
 use mathlib.Core.Option.{some}
 use mathlib.Core.List.{List, [], _∷_, _++_}
-use Prim.Native.Nat.{ℕ, zero, suc, _+_, _-_, _*_, _≤_}
+use Prim.Native.Nat.{ℕ, zero, suc, _+_, _-_, _*_, _≤_, _<_}
 use native.Mathlib.Nat.{zero-mul}
 use native.Mathlib.Omega.{arith}
 use lib.ListN.{length, take, drop, replicate, take-append-drop}
@@ -28,7 +28,7 @@ use Rattle.power.proofs.Finish.{closed, finish-count}
 use Rattle.power.proofs.Way.{Reads, Way, On, here, on-found, close-refl}
 use Rattle.power.proofs.Tables.{Images, table, table-reads, swap-way, revert-way, swap-count, revert-count}
 use Rattle.power.proofs.Start.{newDfu, images, mix-all-active, mix-all-dfu, mix-none, mix-first, mix-reverted, fresh-marks, swapped-marks, Sized, sized}
-use Rattle.power.proofs.Runs.{Admits, ran-after, admits-ran, cut-short, whole-long, answer-done, Left, runs-left, runs-stuck}
+use Rattle.power.proofs.Runs.{Admits, ran-after, admits-ran, cut-short, whole-long, answer-done, Kept, Left, runs-left, runs-stuck}
 use Rattle.power.proofs.Swapped.{boot-reverts, Swapping, swap-kept, swap-short, swap-at, swap-ends, swap-reads}
 use Rattle.power.proofs.Reverted.{Course, copies-none, closing, copying, Turning, Place, revert-kept, revert-place, revert-short, revert-at, revert-ends, closed-boot, boot-idle}
 
@@ -149,12 +149,33 @@ module _ (g : Geometry) (f : Flash) (m : Marked g f) (room : 4 * pageCount g f +
       (swap-reads g (s .whole) N S (swapTable g f) (runs g ks f) (l .rest) (l .inv))
       (swap-ends g (s .whole) N S (swapTable g f) (runs g ks f) (l .rest) (l .inv) k long)
 
+  -- the progress before and after one more run that is cut
+  module _ (more : 1 ≤ N) (ks : List ℕ) (k : ℕ) (cuts : AllCut g ks f) (c : Cut g k (runs g ks f)) where
+    l : Left g There (runs g ks f) ks (length (swapFrom N 0))
+    l = swap-left more ks cuts
+
+    o : Kept g There (after k (bootOps g (runs g ks f)) (runs g ks f)) k (l .rest)
+    o = swap-kept g (s .whole) N S (swapTable g f) (runs g ks f) (l .rest) (l .inv) k (cut-short g k (runs g ks f) (l .admits) c)
+
+    before : progress (g .ws) (runs g ks f .state) + l .rest ≡ 2 * N
+    before = swap-at g (s .whole) N S (swapTable g f) (runs g ks f) (l .rest) (l .inv)
+
+    behind : progress (g .ws) (ran g k (runs g ks f) .state) + o .rest ≡ 2 * N
+    behind =
+        ap (λ (x : Flash). progress (g .ws) (x .state) + o .rest) (ran-after g k (runs g ks f) (l .admits))
+        ∙ swap-at g (s .whole) N S (swapTable g f) (after k (bootOps g (runs g ks f)) (runs g ks f)) (o .rest) (o .inv)
+
+    swap-gains : stepCost g ≤ k → progress (g .ws) (runs g ks f .state) < progress (g .ws) (ran g k (runs g ks f) .state)
+    swap-gains h = omega (arith, before, behind, o .gain h)
+
+    swap-stays : k < stepCost g → progress (g .ws) (ran g k (runs g ks f) .state) ≡ progress (g .ws) (runs g ks f .state)
+    swap-stays h = omega (arith, before, behind, o .still h)
+
   swap-never : 1 ≤ N → (ks : List ℕ) → AllBelow (stepCost g) ks → AllCut g ks f × (progress (g .ws) (runs g ks f .state) ≡ 0)
   swap-never more ks few =
-      let n : length (swapFrom N 0) ≡ 2 * N = swap-count N 0 in
       let o = runs-stuck g There (swap-kept g (s .whole) N S (swapTable g f)) (swap-short g (s .whole) N S (swapTable g f)) ks f
-      (length (swapFrom N 0)) (m .admitted) (there more) (omega arith) few in
-      (o .0, swap-at g (s .whole) N S (swapTable g f) (runs g ks f) (subst (There (runs g ks f)) n (o .1)))
+      (length (swapFrom N 0)) (m .admitted) (there more) (omega (arith, swap-count N 0)) few in
+      (o .0, omega (arith, swap-at g (s .whole) N S (swapTable g f) (runs g ks f) _ (o .1), swap-count N 0))
 
   -- ---- the revert, which leaves the DFU image R
 
@@ -296,6 +317,8 @@ module _ (g : Geometry) (f : Flash) (r : Ready g f) where
         revert-soon = λ ks many cuts.
             let l = back-left g f (r .marked) (r .room) (revertedDfu g f) end ks cuts in
             omega (arith, l .gain many, revert-count (pageCount g f) 0 (2 * pageCount g f));
+        swap-gains = λ ks k cuts c h. swap-gains g f (r .marked) (r .room) (r .some-page) ks k cuts c h;
+        swap-stays = λ ks k cuts c h. swap-stays g f (r .marked) (r .room) (r .some-page) ks k cuts c h;
         swap-never = swap-never g f (r .marked) (r .room) (r .some-page);
         revert-never = back-never g f (r .marked) (r .room) (revertedDfu g f) end (r .some-page);
       }

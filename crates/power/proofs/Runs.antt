@@ -1,6 +1,6 @@
 -- Any number of cut runs: an invariant that one cut run keeps, with so many steps left, is kept by all of them, and the steps
--- left fall by one a run if each budget pays for a step. Also what a run of prepare_boot is over its list of operations. Cited
--- by Swapped, Reverted and Proved. Assumes nothing.
+-- left fall by one a run if each budget pays for a step. Also what a run of prepare_boot is over its list of operations. Cited by
+-- Swapped, Reverted, Proved and Settled. Assumes nothing.
 use mathlib.Core.Path.{_≡_, sym, subst}
 use mathlib.Core.Option.{some}
 use mathlib.Core.List.{List, [], _∷_}

@@ -1,5 +1,5 @@
 -- The tables at the start and at the end of a swap and of a revert are those that the statement names, and what the proofs take
--- from an admitted geometry. Cited by Proved. Assumes nothing.
+-- from an admitted geometry. Cited by Proved and ByPages. Assumes nothing.
 use mathlib.Core.Path.{_≡_, sym, ap, ap₂, _∙_}
 use mathlib.Core.List.{List, _++_, append-assoc, append-nil}
 use Prim.Native.Nat.{ℕ, zero, suc, _+_, _-_, _*_, _/_, _≤_, _<_, zero-le, suc-le-suc}

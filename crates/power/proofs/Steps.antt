@@ -1,5 +1,5 @@
 -- One step of a swap or of a revert, from a flash whose target page may hold anything: done whole it leaves what it always
--- leaves, and cut anywhere it has touched that page alone. Cited by Way. Assumes nothing.
+-- leaves, and cut anywhere it has touched that page alone. Cited by Way and Settled, and by Counts. Assumes nothing.
 use mathlib.Core.Path.{_≡_, refl, sym, ap, _∙_, subst}
 use mathlib.Core.List.{List, [], _∷_, _++_}
 use Prim.Native.Nat.{ℕ, zero, suc, _+_, _-_, _*_, _/_, _≤_, _<_}

@@ -1,5 +1,5 @@
 -- The swap, cut anywhere: what a boot wants while steps of the swap are left, and the one-run lemmas that Runs asks for. Cited by
--- Proved; `boot-reverts` by Reverted. Assumes nothing.
+-- Proved; which operations a boot wants, by Reverted and Settled. Assumes nothing.
 use mathlib.Core.Path.{_≡_, sym, ap, _∙_, subst}
 use mathlib.Core.Bool.{Bool}
 use mathlib.Core.List.{List, _++_}
@@ -88,5 +88,6 @@ module _ (g : Geometry) (whole : page g / g .b * g .b ≡ page g) (N S : ℕ) (h
       go (through l d z) = absurd (omega (arith, z few))
       go (stopped l c p b gain still o) = c
 
-  pub swap-at : (now : Flash) → Swapping now (2 * N) → progress (g .ws) (now .state) ≡ 0
-  swap-at now on = let r = on-found g N S h now (on .0) in omega (arith, r .sum, r .reads .done, swap-count N 0)
+  -- the steps done and the steps left are all of them
+  pub swap-at : (now : Flash) (rest : ℕ) → Swapping now rest → progress (g .ws) (now .state) + rest ≡ 2 * N
+  swap-at now rest on = let r = on-found g N S h now (on .0) in omega (arith, r .sum, r .reads .done, swap-count N 0)

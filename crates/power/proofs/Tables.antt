@@ -1,5 +1,6 @@
 -- The flash after each whole step, as one table for all 4N + 1 stages: c pages of active and d of DFU are the old ones, and n
--- marks are done. The steps of the swap and of the revert lead from table to table. Cited by Start and Proved. Assumes nothing.
+-- marks are done. The steps of the swap and of the revert lead from table to table. Cited by Start, Swapped, Reverted and Proved.
+-- Assumes nothing.
 use mathlib.Core.Path.{_≡_, refl, sym, ap, ap₂, _∙_, subst}
 use mathlib.Core.List.{List, _∷_}
 use Prim.Native.Nat.{ℕ, zero, suc, _+_, _-_, _*_, _/_, _≤_, _<_}

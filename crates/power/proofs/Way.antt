@@ -1,5 +1,5 @@
--- A list of steps, cut anywhere: one lemma, `run-on`, serves the swap and the revert. It says where a run that is cut leaves
--- the flash, where one that is not cut does, and how many steps were gained. Cited by Swapped and Reverted. Assumes nothing.
+-- A list of steps, cut anywhere: one lemma, `run-on`, serves the swap and the revert. It says where a run that is cut leaves the
+-- flash, where one that is not cut does, and how many steps were gained. Cited by Swapped, Reverted and Settled. Assumes nothing.
 use mathlib.Core.Path.{_≡_, refl, sym, ap, _∙_, subst}
 use mathlib.Core.List.{List, [], _∷_, _++_}
 use Prim.Native.Nat.{ℕ, suc, _+_, _-_, _*_, _/_, _≤_, _<_, zero-le}

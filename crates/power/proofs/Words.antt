@@ -1,5 +1,5 @@
 -- The state area as one byte for each word: how words are read and written, and the progress while n marks are done. Cited by
--- Tables, Start and Reverted. Of the bytes they use that a mark stays as it is written and is not erased. Assumes nothing.
+-- Tables, Start, Reverted and Marks. Of the bytes they use that a mark stays as it is written and is not erased. Assumes nothing.
 use mathlib.Core.Path.{_≡_, refl, sym, ap, ap₂, _∙_}
 use mathlib.Core.Bool.{true, false}
 use mathlib.Core.Logic.{_≢_, _⊎_, inl, inr}

@@ -108,6 +108,11 @@ pub record Power (g : Geometry) (f : Flash) : Type 0 where
   -- with a step's cost at each run, the first that is not cut is at latest the 2N-th, and in the revert the (2N + 1)-th
   pub swap-soon : (ks : List ℕ) → AllAtLeast (stepCost g) ks → AllCut g ks f → length ks < 2 * pageCount g f
   pub revert-soon : (ks : List ℕ) → AllAtLeast (stepCost g) ks → AllCut g ks (swapTable g f) → length ks < 2 * pageCount g f + 1
+  -- a run of the swap that is cut gains a step exactly if it has a step's cost
+  pub swap-gains : (ks : List ℕ) (k : ℕ) → AllCut g ks f → Cut g k (runs g ks f) → stepCost g ≤ k
+      → progress (g .ws) (runs g ks f .state) < progress (g .ws) (ran g k (runs g ks f) .state)
+  pub swap-stays : (ks : List ℕ) (k : ℕ) → AllCut g ks f → Cut g k (runs g ks f) → k < stepCost g
+      → progress (g .ws) (ran g k (runs g ks f) .state) ≡ progress (g .ws) (runs g ks f .state)
   -- with one operation less, always, every run is cut and no step is gained
   pub swap-never : (ks : List ℕ) → AllBelow (stepCost g) ks → AllCut g ks f × (progress (g .ws) (runs g ks f .state) ≡ 0)
   pub revert-never : (ks : List ℕ) → AllBelow (stepCost g) ks
