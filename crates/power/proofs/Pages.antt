@@ -88,8 +88,7 @@ module _ (p m : ℕ) (xs ys : List ℕ) (fit : m * p + p ≤ length xs) where
   pub mix-down : withPage p m (pageAt p m ys) (mix p (suc m) xs ys) ≡ mix p m xs ys
   unfolding mix pageAt withPage
   mix-down =
-      ap (λ (z : ℕ). take (m * p) (take z xs ++ drop z ys) ++
-      (take p (drop (m * p) ys) ++ drop (m * p + p) (take z xs ++ drop z ys))) (suc-mul m p)
+      ap (λ (z : ℕ). withPage p m (pageAt p m ys) (take z xs ++ drop z ys)) (suc-mul m p)
       ∙ ap₂ (λ (l r : List ℕ). l ++ (take p (drop (m * p) ys) ++ r)) (seam-take (m * p) (m * p + p) xs ys (omega arith) fit)
       (seam-drop (m * p + p) (m * p + p) xs ys (omega arith) fit)
       ∙ ap (λ (r : List ℕ). take (m * p) xs ++ (take p (drop (m * p) ys) ++ r)) (sym (drop-drop p (m * p) ys))

@@ -186,15 +186,11 @@ module _ (g : Geometry) (N t : ℕ) (A D A′ D′ : List ℕ) (ws : 0 < g .ws) 
   unfolding swapFrom
   swap-way zero n z hk e hz = (table-reads 0 1 n hk (omega arith), ap (λ (i : ℕ). at 0 1 i) (omega arith))
   swap-way (suc k) n z hk e hz =
+      let rest = swap-way k (suc (suc n)) z (omega arith) (omega arith) hz in
       subst (λ (cs : List Copy). Way g N ((2 + t) * g .ws) n (at (suc k) (suc (suc k)) n) cs (at 0 1 z)) (sym (swap-steps k n)) (
         at (suc k) (suc k) (suc n),
         swap-dfu k hk n (omega arith),
-        (
-          at k (suc k) (suc (suc n)),
-          swap-active k hk (suc n) (omega arith),
-          swap-way k (suc (suc n)) z (omega arith)
-              (omega arith) hz,
-        ),
+        (at k (suc k) (suc (suc n)), swap-active k hk (suc n) (omega arith), rest),
       )
 
   -- the whole revert, from page k up
@@ -206,13 +202,9 @@ module _ (g : Geometry) (N t : ℕ) (A D A′ D′ : List ℕ) (ws : 0 < g .ws) 
       let b : n ≡ z = omega arith in
       (table-reads k k n (omega arith) (omega arith), ap₂ (λ (i m : ℕ). at i i m) a b)
   revert-way (suc j) k n z hk e hz =
+      let rest = revert-way j (suc k) (suc (suc n)) z (omega arith) (omega arith) hz in
       subst (λ (cs : List Copy). Way g N ((2 + t) * g .ws) n (at k k n) cs (at N N z)) (sym (revert-steps j k n)) (
         at k (suc k) (suc n),
         revert-dfu k (omega arith) n (omega arith),
-        (
-          at (suc k) (suc k) (suc (suc n)),
-          revert-active k (omega arith) (suc n) (omega arith),
-          revert-way j (suc k)
-              (suc (suc n)) z (omega arith) (omega arith) hz,
-        ),
+        (at (suc k) (suc k) (suc (suc n)), revert-active k (omega arith) (suc n) (omega arith), rest),
       )
