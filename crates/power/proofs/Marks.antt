@@ -15,6 +15,7 @@ use Rattle.geometry.specs.Geometry.{words}
 use Rattle.mem_flash.specs.Flash.{program, writtenAt}
 use Rattle.mem_flash.proofs.Bytes.{programmed-marked, marked-not-erased}
 use Rattle.rules.specs.StateArea.{word, readState, valid, markOpen, mostMarks, firstOpen, progress}
+use Rattle.rules.proofs.StateWords.{progress-valid, progress-invalid}
 use Rattle.power.proofs.Bytes.{length-written}
 use Rattle.power.proofs.Words.{holds-other}
 
@@ -67,15 +68,6 @@ passes w st (suc n) i j h d =
     go true e rest (yes l) = absurd (differ (sym e ∙ d i (omega arith) l))
     go true e rest (no l) = omega arith
     go false e rest l = rest
-
--- the progress, where it counts and where it does not
-progress-counts : (w : ℕ) (st : List ℕ) → valid w st ≡ true → progress w st ≡ firstOpen w st (mostMarks w st) 0
-unfolding progress pick
-progress-counts w st v = rw v
-
-progress-most : (w : ℕ) (st : List ℕ) → valid w st ≡ false → progress w st ≡ mostMarks w st
-unfolding progress pick
-progress-most w st v = rw v
 
 -- ---- a mark written
 
@@ -137,7 +129,7 @@ module _ (w i : ℕ) (st : List ℕ) where
 
         go : (b : Bool) → valid w st ≡ b → i < progress w (withMark w i st)
         go true v =
-            let f : firstOpen w st (mostMarks w st) 0 ≡ i = sym (progress-counts w st v) ∙ e in
-            rw (progress-counts w (withMark w i st) (same-valid ∙ v), same-most)
+            let f : firstOpen w st (mostMarks w st) 0 ≡ i = sym (progress-valid w st v) ∙ e in
+            rw (progress-valid w (withMark w i st) (same-valid ∙ v), same-most)
             (passes w (withMark w i st) (mostMarks w st) 0 (suc i) (omega (arith, here)) (below f))
-        go false v = absurd (omega (arith, here, e, progress-most w st v))
+        go false v = absurd (omega (arith, here, e, progress-invalid w st v))

@@ -18,7 +18,7 @@ use Rattle.power.specs.Power.{Bytes}
 use Rattle.power.specs.Inside.{areaOf}
 use Rattle.power.proofs.Bytes.{bytes-take, bytes-drop, bytes-append}
 use Rattle.power.proofs.Pages.{mix, pages-le, length-mix, page-mix-left, page-mix-right, mix-up, mix-down}
-use Rattle.power.proofs.Words.{spread, marks, length-spread, length-marks, reads-swap, progress-valid, mark-next}
+use Rattle.power.proofs.Words.{spread, marks, length-spread, length-marks, reads-swap, progress-marks, mark-next}
 use Rattle.power.proofs.Areas.{flash-path}
 use Rattle.power.proofs.Steps.{stepped}
 use Rattle.power.proofs.Way.{Reads, Leg, Way}
@@ -104,7 +104,7 @@ module _ (g : Geometry) (N t : ℕ) (A D A′ D′ : List ℕ) (ws : 0 < g .ws) 
         swap = reads-swap (g .ws) ws erased n (t - n) (omega arith);
         paged = ap (λ (l : ℕ). l / P) (active-length c hc) ∙ mul-div-cancel N (im .some);
         sized = length-spread (g .ws) (marks erased n (t - n)) ∙ ap (λ (l : ℕ). l * g .ws) all;
-        done = progress-valid (g .ws) ws n (t - n) (omega arith);
+        done = progress-marks (g .ws) ws n (t - n) (omega arith);
       }
 
   -- a step to DFU: page k from active page s, with c pages of active and d of DFU old, moves d to d′

@@ -203,9 +203,9 @@ module _ (w : ℕ) (some : 0 < w) (v n r : ℕ) (more : 0 < r) where
   unfolding marks
   reads-valid = word-spread w 1 (marks v n r) (omega (arith, length-marks v n r))
 
-pub progress-valid : (w : ℕ) → 0 < w → (n r : ℕ) → 0 < r → progress w (spread w (marks erased n r)) ≡ n
+pub progress-marks : (w : ℕ) → 0 < w → (n r : ℕ) → 0 < r → progress w (spread w (marks erased n r)) ≡ n
 unfolding progress valid pick
-progress-valid w some n r more =
+progress-marks w some n r more =
     rw (reads-valid w some erased n r more, throughout-same w erased, most-marks w some erased n r more)
     (first-open w some erased n r more (2 + (n + r) - 3) 0 (omega arith) (omega arith) (omega arith))
 
