@@ -16,20 +16,19 @@ use Rattle.mem_flash.specs.declared.Flow.the-variants.{On, Cut}
 use Rattle.mem_flash.specs.Flash.{Flash, Op, applyAll}
 use Rattle.mem_flash.specs.Run.{on, ended, run, Ran}
 use Rattle.mem_flash.proofs.Runs.{then-on, then-cut, ran, run-of, on-all}
+use Rattle.rules.proofs.Tables.{copies-none, copies-next}
 use Rattle.rules.specs.Steps.{Copy, toDfu, toActive, swapFrom, revertFrom, swapSteps, revertSteps, onceOps, copiesOps, pageCount, swapOps, revertOps}
 
 -- ---- one step of a table
 
 module _ (g : Geometry) (c : Copy) (cs : List Copy) (k : ℕ) (f f₁ : Flash) (r : Flow) (h : Ran k (onceOps g c f) f f₁ r) where
   step-on : (l : Budget) → r ≡ On l → run k (copiesOps g (c ∷ cs) f) f ≡ run (l .0) (copiesOps g cs f₁) f₁
-  unfolding copiesOps
   step-on l o =
       let w = run-of k (onceOps g c f) f f₁ r h in
-      rw (← on-all k (onceOps g c f) f f₁ r l w o) (then-on k (onceOps g c f) (copiesOps g cs f₁) f f₁ r w l o)
+      rw (copies-next, ← on-all k (onceOps g c f) f f₁ r l w o) (then-on k (onceOps g c f) (copiesOps g cs f₁) f f₁ r w l o)
 
   step-cut : r ≡ Cut → run k (copiesOps g (c ∷ cs) f) f ≡ ended f₁ Cut
-  unfolding copiesOps
-  step-cut o = then-cut k (onceOps g c f) _ f f₁ r (run-of k (onceOps g c f) f f₁ r h) o
+  step-cut o = rw copies-next (then-cut k (onceOps g c f) _ f f₁ r (run-of k (onceOps g c f) f f₁ r h) o)
 
 -- ---- a turn: the plan's next two steps, c and d
 
@@ -83,8 +82,8 @@ revert-last n m h =
     rw e
 
 pub none-left : (g : Geometry) (ps : List Copy) (k : ℕ) (f : Flash) → ps ≡ [] → run k (copiesOps g ps f) f ≡ ended f (on k)
-unfolding copiesOps run
-none-left g ps k f e = rw e
+unfolding run
+none-left g ps k f e = rw (e, copies-none)
 
 -- ---- a plan on its way: what is left to do, done to what is there, ends as the whole does
 

@@ -2,3 +2,4 @@ pub mod Sheet
 pub mod StateWords
 pub mod Unique
 pub mod Did
+pub mod Tables
