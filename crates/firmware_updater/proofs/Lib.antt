@@ -2,3 +2,6 @@ pub mod Cutting
 pub mod Writes
 pub mod Loop
 pub mod Answers
+pub mod Thin
+pub mod Returned
+pub mod Marks

@@ -18,6 +18,7 @@ ghost use Rattle.rules.specs.FirmwareUpdater.{pending, pastEnd, badRange, updat
 ghost use Rattle.state_area.specs.Area.{InState};
 ghost use Rattle.firmware_updater.specs.Updated.{lastOf, remembering, WroteFirmware, PreparedUpdate};
 
+mod lent;
 mod pieces;
 mod range;
 
@@ -31,8 +32,8 @@ use rules::Answer;
 use rules::Sector;
 use state::State;
 
-// The application's side: new firmware is written to DFU, and the next boot is told of it. The record is handed in and back;
-// it holds the sizes, and the sector that was erased last.
+// The application's side: new firmware is written to DFU, and the next boot is told of it. The record is handed in and back,
+// or lent (lent.rt); it holds the sizes, and the sector that was erased last.
 pub struct BlockingFirmwareUpdater {
     pub sizes: Sizes,
     pub last_erased_dfu_sector_index: Sector,

@@ -1,0 +1,76 @@
+// The updater's record lent by `&mut` and changed in place: the form of the Rust, over the calls that take the record by
+// value. Each call copies the record, makes the call of the same name and stores the record that it hands back; a call that
+// hands none back leaves the record as it is.
+ghost use mathlib.Core.Path.{_≡_};
+ghost use mathlib.Core.List.{[]};
+ghost use lib.ListN.{length};
+ghost use Rattle.mem_flash.specs.Run.{flash};
+ghost use Rattle.rules.specs.Calls.{reported, report, Did};
+ghost use Rattle.rules.specs.FirmwareUpdater.{updaterGetState, updaterMarkUpdated, updaterMarkDfu, updaterMarkBooted, readDfu, readOut};
+ghost use Rattle.firmware_updater.specs.Updated.{WroteFirmware, PreparedUpdate};
+use crate::BlockingFirmwareUpdater;
+use rules::Answer;
+
+impl BlockingFirmwareUpdater {
+    pub fn get_state_in(&mut self, dfu: &[u8], state: &[u8]) -> Answer
+        ensures { λ r. ⌜ (reported r ≡ report (updaterGetState (now (self .entry) .sizes) (flash [] (now (dfu .entry)) (now (state .entry)))) 0)
+            × (now (self .exit) ≡ now (self .entry)) ⌝ }
+    {
+        (*self).get_state(dfu, state)
+    }
+
+    pub fn read_dfu_in(&mut self, dfu: &[u8], state: &[u8], offset: u32, buf: &mut [u8]) -> Answer
+        ensures { λ r. ⌜ ((reported r ≡ report (readDfu (now (self .entry) .sizes) offset (length (now (buf .entry))) (flash [] (now (dfu .entry)) (now (state .entry)))) 0)
+            × (now (buf .exit) ≡ readOut (now (self .entry) .sizes) offset (now (buf .entry)) (flash [] (now (dfu .entry)) (now (state .entry)))))
+            × (now (self .exit) ≡ now (self .entry)) ⌝ }
+    {
+        (*self).read_dfu(dfu, state, offset, buf)
+    }
+
+    pub fn mark_updated_in(&mut self, dfu: &[u8], state: &mut [u8], budget: u32) -> Answer
+        ensures { λ r. ⌜ Did (updaterMarkUpdated (now (self .entry) .sizes) (flash [] (now (dfu .entry)) (now (state .entry)))) budget
+            (flash [] (now (dfu .entry)) (now (state .entry))) (flash [] (now (dfu .entry)) (now (state .exit))) r
+            × (now (self .exit) ≡ now (self .entry)) ⌝ }
+    {
+        (*self).mark_updated(dfu, state, budget)
+    }
+
+    pub fn mark_dfu_in(&mut self, dfu: &[u8], state: &mut [u8], budget: u32) -> Answer
+        ensures { λ r. ⌜ Did (updaterMarkDfu (now (self .entry) .sizes) (flash [] (now (dfu .entry)) (now (state .entry)))) budget
+            (flash [] (now (dfu .entry)) (now (state .entry))) (flash [] (now (dfu .entry)) (now (state .exit))) r
+            × (now (self .exit) ≡ now (self .entry)) ⌝ }
+    {
+        (*self).mark_dfu(dfu, state, budget)
+    }
+
+    pub fn mark_booted_in(&mut self, dfu: &[u8], state: &mut [u8], budget: u32) -> Answer
+        ensures { λ r. ⌜ Did (updaterMarkBooted (now (self .entry) .sizes) (flash [] (now (dfu .entry)) (now (state .entry)))) budget
+            (flash [] (now (dfu .entry)) (now (state .entry))) (flash [] (now (dfu .entry)) (now (state .exit))) r
+            × (now (self .exit) ≡ now (self .entry)) ⌝ }
+    {
+        (*self).mark_booted(dfu, state, budget)
+    }
+
+    pub fn write_firmware_in(
+        &mut self,
+        dfu: &mut [u8],
+        state: &[u8],
+        offset: usize,
+        data: &[u8],
+        budget: u32,
+    ) -> Answer
+        ensures { λ r. ⌜ WroteFirmware (now (self .entry)) budget offset (now («data» .entry)) (now (dfu .entry)) (now (state .entry)) (now (dfu .exit)) (now (self .exit)) r ⌝ }
+    {
+        let r = (*self).write_firmware(dfu, state, offset, data, budget);
+        *self = r.updater;
+        r.answer
+    }
+
+    pub fn prepare_update_in(&mut self, dfu: &mut [u8], state: &[u8], budget: u32) -> Answer
+        ensures { λ r. ⌜ PreparedUpdate (now (self .entry)) budget (now (dfu .entry)) (now (state .entry)) (now (dfu .exit)) (now (self .exit)) r ⌝ }
+    {
+        let r = (*self).prepare_update(dfu, state, budget);
+        *self = r.updater;
+        r.answer
+    }
+}
