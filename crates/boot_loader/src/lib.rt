@@ -62,7 +62,8 @@ impl BootLoader {
         let Flow::On(rest) = self.swap_or_revert(active, dfu, state, Budget(budget)) else {
             return Answer::Cut(budget);
         };
-        Answer::Found(found, budget - rest.0)
+        let count = budget - rest.0;
+        Answer::Found(found, count)
     }
 
     // The state that the state area holds, with the sizes of the state area alone.

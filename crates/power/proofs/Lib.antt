@@ -21,3 +21,4 @@ pub mod Inside
 pub mod Marks
 pub mod Settled
 pub mod Marking
+pub mod Carried

@@ -33,7 +33,7 @@ div-max-index c = search needs
 
 -- src/lib.rt:123:25
 sub-max-index : tie.Need-sub-max-index Inv-loop μ-loop
-sub-max-index c = most-in _ _ (c .before .before .pre .0) (c .before .before .pre .1) .0
+sub-max-index c = omega (arith, most-in _ _ (c .before .before .pre .0) (c .before .before .pre .1) .0)
 
 -- src/lib.rt:124:13
 is-valid-requires : tie.Need-is-valid-requires Inv-loop μ-loop

@@ -73,8 +73,8 @@ returns-3 : tie.Need-returns-3
 returns-3 c = boot-cut _ _ _ _ (c .before .before .before .before .before .before .before .before .before .before .before .before .before .before .before .before .before .before .before .boot-verdict .ensures) (c .before .before .before .before .before .before .before .before .before .before .before .before .before .before .before .before .before .enum-told .given .1) _ (c .before .before .before .before .before .before .before .before .before .before .before .before .before .before .read .ensures) _ (c .before .before .before .before .before .before .before .before .before .before .before .before .enum-told2 .given .1) _ _ (c .before .before .before .before .before .before .before .before .swap-or-revert .ensures) (c .enum-told3 .given .1)
 
 -- src/lib.rt:65:30
-sub-t24 : tie.Need-sub-t24
-sub-t24 c = on-low _ _ _ _ _ (c .before .before .before .before .before .before .before .before .before .before .swap-or-revert .ensures) _ (c .before .before .rest .given .1)
+sub-count : tie.Need-sub-count
+sub-count c = on-low _ _ _ _ _ (c .before .before .before .before .before .before .before .before .before .before .swap-or-revert .ensures) _ (c .before .before .rest .given .1)
 
 -- src/lib.rt:42:5
 same-length-5 : tie.Need-same-length-5
@@ -112,7 +112,7 @@ prepare-boot-spec =
     same-length-3
     same-length-4
     returns-3
-    sub-t24
+    sub-count
     same-length-5
     same-length-6
     same-length-7

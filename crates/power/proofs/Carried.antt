@@ -1,0 +1,51 @@
+-- Demand 3 of the code: what prepare_boot's contract allows is what the definition says, run after run. Assumes nothing.
+use mathlib.Core.Path.{_≡_, refl, ap, _∙_, sym, subst}
+use mathlib.Core.List.{List, [], _∷_}
+use Prim.Native.Nat.{ℕ}
+use Rattle.geometry.specs.declared.Geometry.{Geometry}
+use Rattle.mem_flash.specs.Flash.{Flash}
+use Rattle.rules.specs.declared.Answer.{Answer}
+use Rattle.rules.specs.Calls.{Report, reported, report, left, Did}
+use Rattle.rules.specs.Boot.{prepareBoot}
+use Rattle.power.specs.Power.{Ready, answer, ran, Cut, runs, AllCut, FirstWhole, Ends, Rests, Power}
+use Rattle.power.specs.Carried.{IsCut, CutRuns, none, more, Then, CodePower}
+use Rattle.power.proofs.Proved.{power}
+
+-- cut runs of the code are the definition's
+cut-flash : {g : Geometry} {ks : List ℕ} {f h : Flash} → CutRuns g ks f h → runs g ks f ≡ h
+unfolding runs ran
+cut-flash none = refl
+cut-flash {g} (more {ks = ks} r d c w) = ap (runs g ks) (sym (d .flash)) ∙ cut-flash w
+
+all-cut : {g : Geometry} {ks : List ℕ} {f h : Flash} → CutRuns g ks f h → AllCut g ks f
+unfolding AllCut Cut answer ran
+all-cut none = tt
+all-cut {g} (more {ks = ks} r d c w) =
+    (sym (ap (λ (t : Report). t .number) (d .answer)) ∙ c, subst (AllCut g ks) (d .flash) (all-cut w))
+
+module _ {g : Geometry} {ks : List ℕ} {k : ℕ} {f h h′ : Flash} {r : Answer} (t : Then g ks k f h h′ r) where
+  reached : runs g ks f ≡ h
+  reached = cut-flash (t .cuts)
+
+  told : reported r ≡ answer g k (runs g ks f)
+  unfolding answer
+  told = rw reached (t .run .answer)
+
+  leaves : h′ ≡ ran g k (runs g ks f)
+  unfolding ran
+  leaves = rw reached (t .run .flash)
+
+  first : FirstWhole g ks k f
+  unfolding Cut
+  first = record { cuts = all-cut (t .cuts); whole = λ c. t .whole (ap (λ (q : Report). q .number) told ∙ c) }
+
+pub code-power : (g : Geometry) (f : Flash) → Ready g f → CodePower g f
+code-power g f m =
+    let p = power g f m in
+    record {
+      swaps = λ t. (let e = p .swaps _ _ (first t) in (leaves t ∙ e .flash, ap (λ (q : Report). q .state) (told t) ∙ e .state));
+      reverts = λ t n. (let e = p .reverts _ _ (first t) n in (leaves t ∙ e .flash, ap (λ (q : Report). q .state) (told t) ∙ e .state));
+      rests = λ t n. (let e = p .rests _ _ (first t) n in (leaves t ∙ e .flash, ap (λ (q : Report). q .state) (told t ∙ e .answers)));
+      swap-soon = λ a w. p .swap-soon _ a (all-cut w);
+      revert-soon = λ a w. p .revert-soon _ a (all-cut w);
+    }

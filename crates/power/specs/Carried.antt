@@ -1,0 +1,48 @@
+-- Demand 3 carried to the code: the same promise, of the flashes and answers that prepare_boot's contract allows, run after run.
+-- It says nothing of how the function finds them: a run is whatever meets `Did (prepareBoot ..)`, which is the contract of
+-- `BootLoader::prepare_boot` word for word. Proved in proofs/Carried. Assumes nothing.
+use mathlib.Core.Path.{_≡_}
+use mathlib.Core.Option.{some}
+use mathlib.Core.List.{List, [], _∷_}
+use Prim.Native.Nat.{ℕ, _+_, _*_, _<_}
+use lib.ListN.{length}
+use Rattle.state.specs.declared.State.the-variants.{Boot, Swap}
+use Rattle.geometry.specs.declared.Geometry.{Geometry}
+use Rattle.mem_flash.specs.Flash.{Flash}
+use Rattle.rules.specs.declared.Answer.{Answer}
+use Rattle.rules.specs.Steps.{pageCount}
+use Rattle.rules.specs.Calls.{reported, Did}
+use Rattle.rules.specs.Boot.{prepareBoot}
+use Rattle.rules.specs.Power.{swapTable, reverted, revertedErased, stepCost}
+use Rattle.power.specs.Power.{AllAtLeast, OneShort}
+
+-- the answer is a cut
+abbrev pub IsCut : Answer → Type 0
+IsCut r = reported r .number ≡ 7
+
+-- runs of prepare_boot with these budgets, each of them cut, lead from one flash to another
+pub data CutRuns (g : Geometry) : List ℕ → Flash → Flash → Type 0 where
+  none : {f : Flash} → CutRuns g [] f f
+  more : {k : ℕ} {ks : List ℕ} {f f₁ h : Flash} (r : Answer) → Did (prepareBoot g f) k f f₁ r → IsCut r → CutRuns g ks f₁ h
+      → CutRuns g (k ∷ ks) f h
+
+-- after the cut runs, a run that is not cut: from h it leaves h′ and answers r
+pub record Then (g : Geometry) (ks : List ℕ) (k : ℕ) (f h h′ : Flash) (r : Answer) : Type 0 where
+  pub cuts : CutRuns g ks f h
+  pub run : Did (prepareBoot g h) k h h′ r
+  pub whole : IsCut r → ⊥
+
+-- from the flash f, freshly marked
+pub record CodePower (g : Geometry) (f : Flash) : Type 0 where
+  -- the first run that is not cut answers Swap and leaves the swap table
+  pub swaps : {ks : List ℕ} {k : ℕ} {h h′ : Flash} {r : Answer} → Then g ks k f h h′ r
+      → (h′ ≡ swapTable g f) × (reported r .state ≡ some Swap)
+  -- from there it leaves the revert's images
+  pub reverts : {ks : List ℕ} {k : ℕ} {h h′ : Flash} {r : Answer} → Then g ks k (swapTable g f) h h′ r
+      → (OneShort g ks (swapTable g f) → ⊥) → (h′ ≡ reverted g f) × (reported r .state ≡ some Swap)
+  pub rests : {ks : List ℕ} {k : ℕ} {h h′ : Flash} {r : Answer} → Then g ks k (swapTable g f) h h′ r
+      → OneShort g ks (swapTable g f) → (h′ ≡ revertedErased g f) × (reported r .state ≡ some Boot)
+  -- and with a step's cost at each run it is not long in coming
+  pub swap-soon : {ks : List ℕ} {h : Flash} → AllAtLeast (stepCost g) ks → CutRuns g ks f h → length ks < 2 * pageCount g f
+  pub revert-soon : {ks : List ℕ} {h : Flash} → AllAtLeast (stepCost g) ks → CutRuns g ks (swapTable g f) h
+      → length ks < 2 * pageCount g f + 1
