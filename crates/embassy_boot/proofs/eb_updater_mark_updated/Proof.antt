@@ -1,0 +1,29 @@
+-- `eb_updater_mark_updated` meets its contract: the updater's promise, with the caller's sizes.
+-- Assumes nothing.
+use mathlib.Core.Path.{ap}
+use mathlib.Core.List.{[]}
+use Rattle.mem_flash.specs.Run.{flash}
+use Rattle.rules.specs.FirmwareUpdater.{updaterMarkUpdated}
+use Rattle.embassy_boot.proofs.Packs.{tells}
+use borrow.Author.Needs.{needs}
+use Rattle.embassy_boot.proofs.eb_updater_mark_updated.Statement.{statement}
+use Rattle.embassy_boot.proofs.eb_updater_mark_updated.Tie as tie
+
+updater-requires : tie.Need-updater-requires
+updater-requires c κs = search needs
+
+mark-updated-requires : tie.Need-mark-updated-requires
+mark-updated-requires c κs = search needs
+
+pack-requires : tie.Need-pack-requires
+pack-requires c κs = search needs
+
+same-length : tie.Need-same-length
+same-length c = search needs
+
+returns : tie.Need-returns
+returns c = let a = c .before .before .before .before .before .before .before .before .args in tells (ap (λ z. updaterMarkUpdated z (flash [] (a .dfu .now) (a .state .now))) (c .before .before .before .before .before .updater .ensures .0)) (c .before .before .before .mark-updated .ensures) (c .pack .ensures)
+
+pub eb-updater-mark-updated-spec : {M : Type 1} → statement M
+eb-updater-mark-updated-spec =
+    tie.close (tie.spec updater-requires mark-updated-requires pack-requires same-length returns)

@@ -1,0 +1,29 @@
+-- `eb_updater_prepare_update` meets its contract: the updater's promise, with the caller's sizes.
+-- Assumes nothing.
+use mathlib.Core.Path.{ap}
+use mathlib.Core.List.{[]}
+use Rattle.mem_flash.specs.Run.{flash}
+use Rattle.rules.specs.FirmwareUpdater.{prepareUpdate}
+use Rattle.embassy_boot.proofs.Packs.{tells}
+use borrow.Author.Needs.{needs}
+use Rattle.embassy_boot.proofs.eb_updater_prepare_update.Statement.{statement}
+use Rattle.embassy_boot.proofs.eb_updater_prepare_update.Tie as tie
+
+updater-requires : tie.Need-updater-requires
+updater-requires c κs = search needs
+
+prepare-update-requires : tie.Need-prepare-update-requires
+prepare-update-requires c κs = search needs
+
+pack-requires : tie.Need-pack-requires
+pack-requires c κs = search needs
+
+same-length : tie.Need-same-length
+same-length c = search needs
+
+returns : tie.Need-returns
+returns c = let a = c .before .before .before .before .before .before .before .before .args in tells (ap (λ z. prepareUpdate z (flash [] (a .dfu .now) (a .state .now))) (c .before .before .before .before .before .updater .ensures .0)) (c .before .before .before .prepare-update .ensures .did) (c .pack .ensures)
+
+pub eb-updater-prepare-update-spec : {M : Type 1} → statement M
+eb-updater-prepare-update-spec =
+    tie.close (tie.spec updater-requires prepare-update-requires pack-requires same-length returns)

@@ -1,0 +1,35 @@
+-- `eb_updater_write_firmware` meets its contract. What is remembered fits the caller's number by `write-fits`.
+-- Assumes nothing.
+use Rattle.embassy_boot.proofs.Packs.{told-write, write-fits}
+use borrow.Author.Needs.{needs}
+use Rattle.embassy_boot.proofs.eb_updater_write_firmware.Statement.{statement}
+use Rattle.embassy_boot.proofs.eb_updater_write_firmware.Tie as tie
+
+updater-requires : tie.Need-updater-requires
+updater-requires c κs = search needs
+
+write-firmware-requires : tie.Need-write-firmware-requires
+write-firmware-requires c κs = search needs
+
+last-number-requires : tie.Need-last-number-requires
+last-number-requires c κs = write-fits _ _ _ _ _ _ _ _ _ _ _ (c .before .before .before .before .before .updater .ensures .0) (c .before .before .before .before .before .updater .ensures .1) (c .before .before .before .write-firmware .ensures) (search needs)
+
+pack-requires : tie.Need-pack-requires
+pack-requires c κs = search needs
+
+same-length : tie.Need-same-length
+same-length c = search needs
+
+returns : tie.Need-returns
+returns c = told-write _ _ _ _ _ _ _ _ _ _ _ (c .before .before .before .before .before .before .before .updater .ensures .0) (c .before .before .before .before .before .before .before .updater .ensures .1) (c .before .before .before .before .before .write-firmware .ensures) (c .before .last-number .ensures) (c .pack .ensures)
+
+pub eb-updater-write-firmware-spec : {M : Type 1} → statement M
+eb-updater-write-firmware-spec =
+    tie.close
+    (tie.spec
+    updater-requires
+    write-firmware-requires
+    last-number-requires
+    pack-requires
+    same-length
+    returns)

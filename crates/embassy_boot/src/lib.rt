@@ -1,0 +1,317 @@
+// The C boundary: every call of the library under a plain name, over pointers, lengths and numbers. Nothing is decided here;
+// each function makes the library's record of its sizes, calls, and packs the answer into one number, as specs/Packed says.
+// None asks anything of its caller beyond slices that are there: what does not fit is refused by the call.
+ghost use mathlib.Core.Path.{_≡_};
+ghost use mathlib.Core.List.{[]};
+ghost use Prim.Native.Nat.{_≤_, _<_, _^_};
+ghost use lib.ListN.{length};
+ghost use Rattle.state.specs.declared.State.{State};
+ghost use Rattle.state.specs.Magic.{stateOf};
+ghost use Rattle.mem_flash.specs.Run.{flash};
+ghost use Rattle.rules.specs.Calls.{reported, report};
+ghost use Rattle.rules.specs.Boot.{prepareBoot, getState};
+ghost use Rattle.rules.specs.FirmwareState.{mark};
+ghost use Rattle.rules.specs.FirmwareUpdater.{updaterGetState, updaterMarkUpdated, updaterMarkDfu, updaterMarkBooted, prepareUpdate};
+ghost use Rattle.firmware_updater.specs.Updated.{lastOf};
+ghost use Rattle.embassy_boot.specs.Packed.{stateNumber, joined, packed, sectorOf, lastNumber};
+ghost use Rattle.embassy_boot.specs.Told.{geometry, sizes, Told, ToldRead, ToldWrite};
+use boot_loader::BootLoader;
+use firmware_updater::BlockingFirmwareState;
+use firmware_updater::BlockingFirmwareUpdater;
+use geometry::Geometry;
+use geometry::Sizes;
+use rules::Answer;
+use rules::Sector;
+use state::State;
+
+// In place of a state where the answer carries none.
+const NO_STATE: u32 = 255;
+
+// In place of a sector where the updater remembers none.
+const NO_SECTOR: u32 = 4294967295;
+
+// ---- from the library's values to numbers
+
+fn state_number(s: State) -> u32
+    ensures { λ r. ⌜ (r ≡ stateNumber s) × (r ≤ 3) ⌝ }
+{
+    match s {
+        State::Boot => 0,
+        State::Swap => 1,
+        State::Revert => 2,
+        State::DfuDetach => 3,
+    }
+}
+
+// Three numbers in one. The two bounds are what makes it fit 64 bits.
+fn join(number: u32, state: u32, count: u32) -> u64
+    requires { ⌜ (number ≤ 7) × (state ≤ 255) ⌝ }
+    ensures { λ r. ⌜ r ≡ joined number state count ⌝ }
+{
+    number as u64 * 1099511627776 + state as u64 * 4294967296 + count as u64
+}
+
+fn pack(answer: Answer) -> u64
+    ensures { λ r. ⌜ r ≡ packed (reported answer) ⌝ }
+{
+    match answer {
+        Answer::Found(s, n) => join(0, state_number(s), n),
+        Answer::Done(n) => join(0, NO_STATE, n),
+        Answer::Refused(why) => join(why.number(), NO_STATE, 0),
+        Answer::Cut(n) => join(7, NO_STATE, n),
+    }
+}
+
+// A number that is no sector of the area is taken as it is: it equals no sector in use, so it counts as another one.
+fn sector(last: u32) -> Sector
+    ensures { λ r. ⌜ r ≡ sectorOf last ⌝ }
+{
+    if last == NO_SECTOR {
+        return Sector::None;
+    }
+    Sector::At(last as usize)
+}
+
+fn last_number(memory: Sector) -> u32
+    requires { ⌜ lastNumber memory < 2 ^ 32 ⌝ }
+    ensures { λ r. ⌜ r ≡ lastNumber memory ⌝ }
+{
+    match memory {
+        Sector::None => NO_SECTOR,
+        Sector::At(s) => s as u32,
+    }
+}
+
+// ---- boot
+
+// Swaps the images if an update is marked, or undoes the swap if it was not confirmed; answers the state read at entry.
+#[no_mangle]
+pub extern "C" fn eb_prepare_boot(
+    active: &mut [u8],
+    dfu: &mut [u8],
+    state: &mut [u8],
+    ea: u32,
+    wa: u32,
+    ed: u32,
+    wd: u32,
+    es: u32,
+    ws: u32,
+    b: u32,
+    budget: u32,
+) -> u64
+    ensures { λ r. ⌜ Told (prepareBoot (geometry ea wa ed wd es ws b) (flash (now (active .entry)) (now (dfu .entry)) (now (state .entry)))) budget
+        (flash (now (active .entry)) (now (dfu .entry)) (now (state .entry)))
+        (flash (now (active .exit)) (now (dfu .exit)) (now (state .exit))) r ⌝ }
+{
+    let g = Geometry {
+        ea,
+        wa,
+        ed,
+        wd,
+        es,
+        ws,
+        b,
+    };
+    pack(BootLoader::new(g).prepare_boot(active, dfu, state, budget))
+}
+
+// The boot loader's reading of the state area. The images' sizes play no part in it.
+#[no_mangle]
+pub extern "C" fn eb_read_state(state: &[u8], es: u32, ws: u32) -> u64
+    ensures { λ r. ⌜ r ≡ packed (report (getState es ws (now (state .entry))) 0) ⌝ }
+{
+    let g = Geometry {
+        ea: 0,
+        wa: 0,
+        ed: 0,
+        wd: 0,
+        es,
+        ws,
+        b: 0,
+    };
+    pack(BootLoader::new(g).read_state(state))
+}
+
+// ---- the firmware state
+
+#[no_mangle]
+pub extern "C" fn eb_state_get_state(state: &[u8], es: u32, ws: u32) -> u64
+    ensures { λ r. ⌜ r ≡ packed (report (getState es ws (now (state .entry))) 0) ⌝ }
+{
+    pack(BlockingFirmwareState::new(es, ws).get_state(state))
+}
+
+// The next boot swaps the images.
+#[no_mangle]
+pub extern "C" fn eb_state_mark_updated(state: &mut [u8], es: u32, ws: u32, budget: u32) -> u64
+    ensures { λ r. ⌜ Told (mark State.Swap es ws (now (state .entry))) budget (flash [] [] (now (state .entry))) (flash [] [] (now (state .exit))) r ⌝ }
+{
+    pack(BlockingFirmwareState::new(es, ws).mark_updated(state, budget))
+}
+
+// The next boot starts the USB update.
+#[no_mangle]
+pub extern "C" fn eb_state_mark_dfu(state: &mut [u8], es: u32, ws: u32, budget: u32) -> u64
+    ensures { λ r. ⌜ Told (mark State.DfuDetach es ws (now (state .entry))) budget (flash [] [] (now (state .entry))) (flash [] [] (now (state .exit))) r ⌝ }
+{
+    pack(BlockingFirmwareState::new(es, ws).mark_dfu(state, budget))
+}
+
+// The new firmware is confirmed: the next boot does not undo the swap.
+#[no_mangle]
+pub extern "C" fn eb_state_mark_booted(state: &mut [u8], es: u32, ws: u32, budget: u32) -> u64
+    ensures { λ r. ⌜ Told (mark State.Boot es ws (now (state .entry))) budget (flash [] [] (now (state .entry))) (flash [] [] (now (state .exit))) r ⌝ }
+{
+    pack(BlockingFirmwareState::new(es, ws).mark_booted(state, budget))
+}
+
+// ---- the firmware updater
+
+// An updater with the memory that the caller kept.
+fn updater(ed: u32, wd: u32, es: u32, ws: u32, last: u32) -> BlockingFirmwareUpdater
+    ensures { λ r. ⌜ (r .sizes ≡ sizes ed wd es ws) × (lastOf r ≡ sectorOf last) ⌝ }
+{
+    let memory = sector(last);
+    let sizes = Sizes { ed, wd, es, ws };
+    BlockingFirmwareUpdater {
+        sizes,
+        last_erased_dfu_sector_index: memory,
+    }
+}
+
+#[no_mangle]
+pub extern "C" fn eb_updater_get_state(
+    dfu: &[u8],
+    state: &[u8],
+    ed: u32,
+    wd: u32,
+    es: u32,
+    ws: u32,
+) -> u64
+    ensures { λ r. ⌜ r ≡ packed (report (updaterGetState (sizes ed wd es ws) (flash [] (now (dfu .entry)) (now (state .entry)))) 0) ⌝ }
+{
+    pack(updater(ed, wd, es, ws, NO_SECTOR).get_state(dfu, state))
+}
+
+// The next boot swaps the images.
+#[no_mangle]
+pub extern "C" fn eb_updater_mark_updated(
+    dfu: &[u8],
+    state: &mut [u8],
+    ed: u32,
+    wd: u32,
+    es: u32,
+    ws: u32,
+    budget: u32,
+) -> u64
+    ensures { λ r. ⌜ Told (updaterMarkUpdated (sizes ed wd es ws) (flash [] (now (dfu .entry)) (now (state .entry)))) budget
+        (flash [] (now (dfu .entry)) (now (state .entry))) (flash [] (now (dfu .entry)) (now (state .exit))) r ⌝ }
+{
+    pack(updater(ed, wd, es, ws, NO_SECTOR).mark_updated(dfu, state, budget))
+}
+
+// The next boot starts the USB update. Not while a swap is pending.
+#[no_mangle]
+pub extern "C" fn eb_updater_mark_dfu(
+    dfu: &[u8],
+    state: &mut [u8],
+    ed: u32,
+    wd: u32,
+    es: u32,
+    ws: u32,
+    budget: u32,
+) -> u64
+    ensures { λ r. ⌜ Told (updaterMarkDfu (sizes ed wd es ws) (flash [] (now (dfu .entry)) (now (state .entry)))) budget
+        (flash [] (now (dfu .entry)) (now (state .entry))) (flash [] (now (dfu .entry)) (now (state .exit))) r ⌝ }
+{
+    pack(updater(ed, wd, es, ws, NO_SECTOR).mark_dfu(dfu, state, budget))
+}
+
+// The new firmware is confirmed.
+#[no_mangle]
+pub extern "C" fn eb_updater_mark_booted(
+    dfu: &[u8],
+    state: &mut [u8],
+    ed: u32,
+    wd: u32,
+    es: u32,
+    ws: u32,
+    budget: u32,
+) -> u64
+    ensures { λ r. ⌜ Told (updaterMarkBooted (sizes ed wd es ws) (flash [] (now (dfu .entry)) (now (state .entry)))) budget
+        (flash [] (now (dfu .entry)) (now (state .entry))) (flash [] (now (dfu .entry)) (now (state .exit))) r ⌝ }
+{
+    pack(updater(ed, wd, es, ws, NO_SECTOR).mark_booted(dfu, state, budget))
+}
+
+// Fills `out` with the bytes of DFU from an offset on.
+#[no_mangle]
+pub extern "C" fn eb_updater_read_dfu(
+    dfu: &[u8],
+    state: &[u8],
+    ed: u32,
+    wd: u32,
+    es: u32,
+    ws: u32,
+    offset: u32,
+    out: &mut [u8],
+) -> u64
+    ensures { λ r. ⌜ ToldRead (sizes ed wd es ws) offset (now (out .entry)) (now (out .exit)) (flash [] (now (dfu .entry)) (now (state .entry))) r ⌝ }
+{
+    pack(updater(ed, wd, es, ws, NO_SECTOR).read_dfu(dfu, state, offset, out))
+}
+
+// Writes data at an offset of DFU, sector by sector. Not while a swap is pending. The memory is the caller's, in `last`.
+#[no_mangle]
+pub extern "C" fn eb_updater_write_firmware(
+    dfu: &mut [u8],
+    state: &[u8],
+    ed: u32,
+    wd: u32,
+    es: u32,
+    ws: u32,
+    offset: u64,
+    data: &[u8],
+    last: &mut u32,
+    budget: u32,
+) -> u64
+    ensures { λ r. ⌜ ToldWrite (sizes ed wd es ws) budget offset (now («data» .entry)) (now (last .entry)) (now (last .exit))
+        (flash [] (now (dfu .entry)) (now (state .entry))) (flash [] (now (dfu .exit)) (now (state .entry))) r ⌝ }
+{
+    let before = updater(ed, wd, es, ws, *last);
+    let wrote = before.write_firmware(dfu, state, offset as usize, data, budget);
+    let after = wrote.updater;
+    let memory = after.last_erased_dfu_sector_index;
+    *last = last_number(memory);
+    let answer = wrote.answer;
+    pack(answer)
+}
+
+// Erases all of DFU. Not while a swap is pending. The memory isn't touched, so it isn't asked for.
+#[no_mangle]
+pub extern "C" fn eb_updater_prepare_update(
+    dfu: &mut [u8],
+    state: &[u8],
+    ed: u32,
+    wd: u32,
+    es: u32,
+    ws: u32,
+    budget: u32,
+) -> u64
+    ensures { λ r. ⌜ Told (prepareUpdate (sizes ed wd es ws) (flash [] (now (dfu .entry)) (now (state .entry)))) budget
+        (flash [] (now (dfu .entry)) (now (state .entry))) (flash [] (now (dfu .exit)) (now (state .entry))) r ⌝ }
+{
+    let wrote = updater(ed, wd, es, ws, NO_SECTOR).prepare_update(dfu, state, budget);
+    let answer = wrote.answer;
+    pack(answer)
+}
+
+// ---- states
+
+// The state of a word, by its number.
+#[no_mangle]
+pub extern "C" fn eb_state_from(bytes: &[u8]) -> u32
+    ensures { λ r. ⌜ r ≡ stateNumber (stateOf (now (bytes .entry))) ⌝ }
+{
+    state_number(State::from(bytes))
+}
