@@ -1,0 +1,266 @@
+//! How fast the library is beside the original: same inputs, both optimised, median of several runs.
+//!
+//! 512 KiB active, 4 KiB pages, chunks of 256, a 4 KiB state area in 4-byte words. The original runs twice:
+//! over the crate's own test flash with the write altered, which is what the ratio is asked against, and over
+//! the leaner flash of the comparison.
+
+use std::hint::black_box;
+use std::time::{Duration, Instant};
+
+use call::{Answers, Bench, Call, Geometry, Kind, NO_SECTOR, operations_of};
+use compare::library::Library;
+use compare::random::Random;
+use embedded_storage::nor_flash::{ErrorType, NorFlash, ReadNorFlash};
+use original::mem_flash::{MemFlash, Supply};
+use original::{
+    BlockingFirmwareState, BlockingFirmwareUpdater, BootLoader, BootLoaderConfig, FirmwareUpdaterConfig,
+    crate_mem_flash,
+};
+
+const PAGE: usize = 4096;
+const WRITE: usize = 4;
+const WORD: usize = 4;
+const CHUNK: usize = 256;
+const ACTIVE: usize = 512 * 1024;
+const DFU: usize = ACTIVE + PAGE;
+const STATE: usize = 4096;
+const RUNS: usize = 21;
+
+const GEOMETRY: Geometry = Geometry {
+    ea: PAGE as u32,
+    wa: WRITE as u32,
+    ed: PAGE as u32,
+    wd: WRITE as u32,
+    es: STATE as u32,
+    ws: WORD as u32,
+    b: CHUNK as u32,
+};
+
+/// The three areas as the crate's own flash, altered.
+struct CrateFlash {
+    active: crate_mem_flash::MemFlash<ACTIVE, PAGE, WRITE>,
+    dfu: crate_mem_flash::MemFlash<DFU, PAGE, WRITE>,
+    state: crate_mem_flash::MemFlash<STATE, STATE, WORD>,
+}
+
+/// A flash lent to a loader, so that no area is moved while the clock runs.
+struct Lend<'a, F>(&'a mut F);
+
+impl<F: NorFlash> ErrorType for Lend<'_, F> {
+    type Error = F::Error;
+}
+
+impl<F: NorFlash> ReadNorFlash for Lend<'_, F> {
+    const READ_SIZE: usize = F::READ_SIZE;
+
+    #[inline(always)]
+    fn read(&mut self, offset: u32, bytes: &mut [u8]) -> Result<(), F::Error> {
+        ReadNorFlash::read(self.0, offset, bytes)
+    }
+
+    #[inline(always)]
+    fn capacity(&self) -> usize {
+        ReadNorFlash::capacity(self.0)
+    }
+}
+
+impl<F: NorFlash> NorFlash for Lend<'_, F> {
+    const WRITE_SIZE: usize = F::WRITE_SIZE;
+    const ERASE_SIZE: usize = F::ERASE_SIZE;
+
+    #[inline(always)]
+    fn erase(&mut self, from: u32, to: u32) -> Result<(), F::Error> {
+        NorFlash::erase(self.0, from, to)
+    }
+
+    #[inline(always)]
+    fn write(&mut self, offset: u32, bytes: &[u8]) -> Result<(), F::Error> {
+        NorFlash::write(self.0, offset, bytes)
+    }
+}
+
+/// Something that both sides can do.
+trait Task {
+    fn original<A: NorFlash, D: NorFlash, S: NorFlash>(&self, active: &mut A, dfu: &mut D, state: &mut S);
+    fn library(&self, bench: &mut Bench);
+}
+
+fn ask(kind: Kind, bench: &mut Bench) -> u64 {
+    Library.answer(&Call { kind, geometry: GEOMETRY, budget: u32::MAX, offset: 0, data: &[] }, bench.lend())
+}
+
+struct Boot;
+
+impl Task for Boot {
+    fn original<A: NorFlash, D: NorFlash, S: NorFlash>(&self, active: &mut A, dfu: &mut D, state: &mut S) {
+        let config = BootLoaderConfig { active: Lend(active), dfu: Lend(dfu), state: Lend(state) };
+        let mut chunk = [0; CHUNK];
+        let answer = BootLoader::new(config).prepare_boot(&mut chunk);
+        assert!(black_box(answer).is_ok());
+    }
+
+    fn library(&self, bench: &mut Bench) {
+        black_box(ask(Kind::PrepareBoot, bench));
+    }
+}
+
+struct ReadState;
+
+const READS: usize = 20_000;
+
+impl Task for ReadState {
+    fn original<A: NorFlash, D: NorFlash, S: NorFlash>(&self, active: &mut A, dfu: &mut D, state: &mut S) {
+        let mut word = [0; WORD];
+        for _ in 0..READS {
+            let state = Lend(black_box(&mut *state));
+            let config = BootLoaderConfig { active: Lend(active), dfu: Lend(dfu), state };
+            assert!(black_box(BootLoader::new(config).read_state(&mut word)).is_ok());
+        }
+    }
+
+    fn library(&self, bench: &mut Bench) {
+        for _ in 0..READS {
+            black_box(ask(Kind::ReadState, black_box(bench)));
+        }
+    }
+}
+
+/// mark_updated and mark_booted by turns, so that every call has something to do.
+struct Marks;
+
+const MARKS: usize = 400;
+
+impl Task for Marks {
+    fn original<A: NorFlash, D: NorFlash, S: NorFlash>(&self, _: &mut A, _: &mut D, state: &mut S) {
+        for i in 0..MARKS {
+            let mut word = [0; WORD];
+            let mut firmware = BlockingFirmwareState::new(Lend(black_box(&mut *state)), &mut word);
+            let answer = if i % 2 == 0 { firmware.mark_updated() } else { firmware.mark_booted() };
+            assert!(black_box(answer).is_ok());
+        }
+    }
+
+    fn library(&self, bench: &mut Bench) {
+        for i in 0..MARKS {
+            let kind = if i % 2 == 0 { Kind::StateMarkUpdated } else { Kind::StateMarkBooted };
+            black_box(ask(kind, black_box(bench)));
+        }
+    }
+}
+
+/// An image in pieces of one length, by one updater.
+struct Write<'a> {
+    image: &'a [u8],
+    piece: usize,
+}
+
+impl Task for Write<'_> {
+    fn original<A: NorFlash, D: NorFlash, S: NorFlash>(&self, _: &mut A, dfu: &mut D, state: &mut S) {
+        let mut word = [0; WORD];
+        let config = FirmwareUpdaterConfig { dfu: Lend(dfu), state: Lend(state) };
+        let mut updater = BlockingFirmwareUpdater::new(config, &mut word);
+        for (i, part) in self.image.chunks(self.piece).enumerate() {
+            assert!(black_box(updater.write_firmware(i * self.piece, part)).is_ok());
+        }
+    }
+
+    fn library(&self, bench: &mut Bench) {
+        for (i, data) in self.image.chunks(self.piece).enumerate() {
+            let offset = (i * self.piece) as u64;
+            let call = Call { kind: Kind::WriteFirmware, geometry: GEOMETRY, budget: u32::MAX, offset, data };
+            black_box(Library.answer(&call, bench.lend()));
+        }
+    }
+}
+
+fn timed(body: impl FnOnce()) -> Duration {
+    let begin = Instant::now();
+    body();
+    begin.elapsed()
+}
+
+fn median(mut times: Vec<Duration>) -> f64 {
+    times.sort();
+    times[times.len() / 2].as_secs_f64() * 1e6
+}
+
+/// One line: the sides by turns, so that a slow moment of the machine meets all.
+fn measure(name: &str, flash: &mut CrateFlash, start: &Bench, task: impl Task) {
+    let mut lean = start.clone();
+    let mut bench = start.clone();
+    let mut times = [Vec::new(), Vec::new(), Vec::new()];
+    for run in 0..RUNS + 2 {
+        flash.active.mem.copy_from_slice(&start.active);
+        flash.dfu.mem.copy_from_slice(&start.dfu);
+        flash.state.mem.copy_from_slice(&start.state);
+        lean.clone_from(start);
+        bench.clone_from(start);
+        let supply = Supply::new(u32::MAX);
+        let first = timed(|| task.original(&mut flash.active, &mut flash.dfu, &mut flash.state));
+        let second = timed(|| {
+            task.original(
+                &mut MemFlash::<PAGE, WRITE>::new(&mut lean.active, &supply),
+                &mut MemFlash::<PAGE, WRITE>::new(&mut lean.dfu, &supply),
+                &mut MemFlash::<STATE, WORD>::new(&mut lean.state, &supply),
+            )
+        });
+        let third = timed(|| task.library(&mut bench));
+        let same = bench.active == lean.active && bench.dfu == lean.dfu && bench.state == lean.state;
+        assert!(same, "{name}: library and original left different areas");
+        assert!(flash.active.mem[..] == lean.active && flash.dfu.mem[..] == lean.dfu, "{name}: two flashes");
+        // the first runs only warm up
+        if run >= 2 {
+            for (list, time) in times.iter_mut().zip([first, second, third]) {
+                list.push(time);
+            }
+        }
+    }
+    let [first, second, third] = times.map(median);
+    println!(
+        "{name:<34} {first:>10.1} {second:>10.1} {third:>10.1} {:>10.3} {:>10.3}",
+        third / first,
+        third / second
+    );
+}
+
+fn main() {
+    let mut random = Random::new(1);
+    let mut empty = Bench {
+        active: random.bytes(ACTIVE),
+        dfu: random.bytes(DFU),
+        state: vec![0xFF; STATE],
+        out: Vec::new(),
+        last: NO_SECTOR,
+    };
+    let image = random.bytes(ACTIVE);
+    let mut fresh = empty.clone();
+    fresh.state[..WORD].fill(0xF0);
+    let mut swapped = fresh.clone();
+    let operations = operations_of(ask(Kind::PrepareBoot, &mut swapped));
+    let mut half = fresh.clone();
+    let budget = operations / 2;
+    let cut = Call { kind: Kind::PrepareBoot, geometry: GEOMETRY, budget, offset: 0, data: &[] };
+    Library.answer(&cut, half.lend());
+    empty.last = NO_SECTOR;
+
+    let mut flash = Box::new(CrateFlash {
+        active: crate_mem_flash::MemFlash::new(0xFF),
+        dfu: crate_mem_flash::MemFlash::new(0xFF),
+        state: crate_mem_flash::MemFlash::new(0xFF),
+    });
+    println!("microseconds, median of {RUNS} runs; a ratio below 1 means that the library is faster");
+    println!(
+        "{:<34} {:>10} {:>10} {:>10} {:>10} {:>10}",
+        "", "original", "lean flash", "library", "ratio", "to lean"
+    );
+    measure("full swap", &mut flash, &fresh, Boot);
+    measure("full revert", &mut flash, &swapped, Boot);
+    measure("resume at half the swap", &mut flash, &half, Boot);
+    measure("boot with nothing to do", &mut flash, &empty, Boot);
+    measure("read_state, 20,000 calls", &mut flash, &fresh, ReadState);
+    measure("mark_updated, mark_booted, 400", &mut flash, &empty, Marks);
+    for piece in [ACTIVE, PAGE, CHUNK] {
+        let name = format!("write_firmware, 512 KiB by {piece}");
+        measure(&name, &mut flash, &empty, Write { image: &image, piece });
+    }
+}

@@ -1,0 +1,118 @@
+//! prepare_boot: every budget, from states of every kind.
+
+use call::{Bench, Call, Geometry, Kind, number_of};
+use original::Original;
+
+use crate::judge::Judge;
+use crate::random::Random;
+use crate::shapes::{Shape, all_shapes, random_shape, row};
+use crate::states::{self, MAGICS, each_over};
+
+pub fn boot(geometry: Geometry) -> Call<'static> {
+    Call { kind: Kind::PrepareBoot, geometry, budget: 0, offset: 0, data: &[] }
+}
+
+/// The smallest geometries with every state area over a small alphabet, every budget.
+pub fn exhaustive(judge: &mut Judge, random: &mut Random) {
+    let byte_words = row([1, 1, 1, 1, 1, 1]);
+    // no page: three to five words, all ten odd bytes or the four that matter
+    each_shape_over(judge, random, byte_words, [1, 0, 1, 3], &[], &states::ODD);
+    each_shape_over(judge, random, byte_words, [1, 0, 2, 5], &[], &[0x00, 0xFF, 0xF0, 0xC0]);
+    // one page: 4N + 2, 4N + 3 and more words
+    each_shape_over(judge, random, byte_words, [1, 1, 2, 6], &[], &[0x00, 0xFF, 0xF0, 0xA5]);
+    each_shape_over(judge, random, byte_words, [1, 1, 2, 7], &[0xF0], &[0x00, 0xFF, 0xF0, 0x7F]);
+    each_shape_over(judge, random, byte_words, [1, 1, 3, 8], &[0xF0], &[0x00, 0xFF, 0x01]);
+    // two pages
+    each_shape_over(judge, random, byte_words, [1, 2, 3, 10], &[0xF0], &[0x00, 0xFF]);
+    each_shape_over(judge, random, byte_words, [1, 2, 3, 11], &[0xF0, 0xFF], &[0x00, 0xFF, 0x5A]);
+    // three pages on the sheet's numbers, and the short state area
+    each_shape_over(judge, random, row([4, 2, 4, 2, 14, 1]), [2, 3, 4, 14], &[0xF0, 0xFF], &[0x00, 0xFF]);
+    // words of two and three bytes, so that a mark or a magic can be half there
+    let two = row([2, 1, 2, 1, 2, 2]);
+    each_shape_over(judge, random, two, [2, 0, 1, 3], &[], &[0x00, 0xFF, 0xF0, 0xC0]);
+    each_shape_over(judge, random, two, [2, 1, 2, 6], &[0xF0, 0xF0], &[0x00, 0xFF]);
+    each_shape_over(judge, random, two, [2, 1, 2, 7], &[0xF0, 0xF0, 0xFF, 0xFF], &[0x00, 0xFF]);
+    let three = row([3, 1, 3, 3, 6, 3]);
+    each_shape_over(judge, random, three, [3, 1, 3, 6], &[0xF0, 0xF0, 0xF0, 0xFF, 0xFF, 0xFF], &[0x00, 0xFF]);
+}
+
+/// Chunk, active pages, DFU pages and state words; the state area starts as given.
+fn each_shape_over(
+    judge: &mut Judge,
+    random: &mut Random,
+    side: &'static dyn Original,
+    [b, pages, dfu_pages, words]: [usize; 4],
+    start: &[u8],
+    alphabet: &[u8],
+) {
+    let geometry = crate::shapes::geometry_of(side, b);
+    let page = geometry.page() as usize;
+    let shape = Shape { geometry, la: pages * page, ld: dfu_pages * page, ls: words * geometry.ws as usize };
+    let mut bench = shape.bench(random, Vec::new());
+    each_over(alphabet, start, shape.ls, |state| {
+        random.fill(&mut bench.active);
+        random.fill(&mut bench.dfu);
+        state.clone_into(&mut bench.state);
+        judge.sweep(Some(side), &boot(geometry), &bench);
+    });
+}
+
+/// All shapes of the compiled rows with states of every kind, every budget.
+pub fn shapes(judge: &mut Judge, random: &mut Random) {
+    for (side, shape) in all_shapes() {
+        let n = shape.pages();
+        // a whole swap and a whole revert at every budget
+        for state in [states::fresh(&shape), states::after_steps(&shape, 2 * n)] {
+            let bench = shape.bench(random, state);
+            judge.sweep_every(Some(side), &boot(shape.geometry), &bench);
+        }
+        let mut kinds = vec![vec![0xFF; shape.ls], vec![0x00; shape.ls]];
+        kinds.extend(MAGICS.iter().map(|magic| states::only_magic(&shape, *magic)));
+        kinds.push(states::after_steps(&shape, 4 * n));
+        kinds.push(states::after_steps(&shape, shape.words()));
+        let more = 12_000 / (shape.la + shape.ld + 200) + 2;
+        kinds.extend((0..more).map(|_| states::random_state(random, &shape)));
+        for state in kinds {
+            let bench = shape.bench(random, state);
+            judge.sweep(Some(side), &boot(shape.geometry), &bench);
+        }
+    }
+}
+
+/// Real cut runs: from a fresh mark through the swap and on through the revert, cut at random again and
+/// again; small shapes are swept at each stage.
+pub fn cut_runs(judge: &mut Judge, random: &mut Random) {
+    for (side, shape) in all_shapes() {
+        let rounds = if shape.la + shape.ld < 600 { 3 } else { 1 };
+        for _ in 0..rounds {
+            let mut bench = shape.bench(random, states::fresh(&shape));
+            let cost = shape.page() / shape.geometry.b as usize + 2;
+            let mut finished = 0;
+            // a run with less than a step's cost gains nothing, so some runs must have more
+            while finished < 3 {
+                let budget = random.below(3 * cost + 2) as u32;
+                let call = Call { budget, ..boot(shape.geometry) };
+                if shape.la + shape.ld < 64 {
+                    judge.sweep(Some(side), &call, &bench);
+                }
+                let word = judge.call(Some(side), &call, &bench);
+                bench.clone_from(judge.expected());
+                if number_of(word) == 0 {
+                    finished += 1;
+                }
+            }
+        }
+    }
+}
+
+/// Admitted numbers that aren't compiled, against the model.
+pub fn runtime_shapes(judge: &mut Judge, random: &mut Random) {
+    for _ in 0..10_000 {
+        let shape = random_shape(random);
+        for _ in 0..3 {
+            let state = states::random_state(random, &shape);
+            let bench: Bench = shape.bench(random, state);
+            judge.sweep(None, &boot(shape.geometry), &bench);
+        }
+    }
+}

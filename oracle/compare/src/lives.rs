@@ -1,0 +1,55 @@
+//! Lives of a device: all calls mixed on one bench, each going on from where the one before was cut.
+
+use call::{Bench, Call, Kind};
+use original::Original;
+
+use crate::judge::Judge;
+use crate::random::Random;
+use crate::shapes::{Shape, all_shapes, image};
+use crate::states;
+
+/// Random lives on every small shape of the compiled rows.
+pub fn lives(judge: &mut Judge, random: &mut Random) {
+    for (side, shape) in all_shapes() {
+        if shape.la + shape.ld > 3000 {
+            continue;
+        }
+        let state = match random.below(3) {
+            0 => states::random_state(random, &shape),
+            _ => vec![0xFF; shape.ls],
+        };
+        let mut bench = shape.bench(random, state);
+        for _ in 0..60 {
+            step(judge, random, side, &shape, &mut bench);
+        }
+    }
+}
+
+fn step(judge: &mut Judge, random: &mut Random, side: &dyn Original, shape: &Shape, bench: &mut Bench) {
+    let kind = match random.below(4) {
+        0 | 1 => Kind::PrepareBoot,
+        2 => *random.pick(&[Kind::StateMarkUpdated, Kind::UpdaterMarkUpdated, Kind::WriteFirmware]),
+        _ => *random.pick(&Kind::ALL[..13]),
+    };
+    let write = shape.geometry.wd as usize;
+    let units = shape.ld / write;
+    let from = random.below(units + 1);
+    let length = write * random.below((units - from + 1).min(40));
+    let data = match kind {
+        Kind::WriteFirmware => image(random, length, write),
+        _ => Vec::new(),
+    };
+    bench.out = match kind {
+        Kind::ReadDfu => random.bytes(length),
+        _ => Vec::new(),
+    };
+    let cost = shape.page() / shape.geometry.b as usize + 2;
+    let budget = match random.below(3) {
+        0 => u32::MAX,
+        1 => random.below(5) as u32,
+        _ => random.below(3 * cost) as u32,
+    };
+    let call = Call { kind, geometry: shape.geometry, budget, offset: (from * write) as u64, data: &data };
+    judge.call(Some(side), &call, bench);
+    bench.clone_from(judge.expected());
+}

@@ -1,0 +1,133 @@
+//! Document 01's "What the power may do", watched on the original (and compared on the way): the tables after
+//! any cuts, the number of runs, the least budget that gains a step, and images that don't matter.
+
+use std::process::exit;
+
+use call::{Bench, Call, Kind, number_of};
+use original::Original;
+
+use crate::boots::boot;
+use crate::judge::Judge;
+use crate::random::Random;
+use crate::shapes::{Shape, all_shapes};
+use crate::states;
+
+fn expect(holds: bool, what: &str, shape: &Shape) {
+    if !holds {
+        println!("document 01 doesn't hold of the original: {what}, {shape:?}");
+        exit(1);
+    }
+}
+
+/// Shapes that demand 3 speaks of: a page at least, 4N + 3 words or more.
+fn shapes() -> Vec<(&'static dyn Original, Shape)> {
+    let mut all = all_shapes();
+    all.retain(|(_, shape)| {
+        shape.pages() >= 1 && shape.words() >= 4 * shape.pages() + 3 && shape.la + shape.ld <= 600
+    });
+    all
+}
+
+/// Cuts anywhere: the first whole run leaves the swap table, and from there the revert's two images.
+pub fn tables(judge: &mut Judge, random: &mut Random) {
+    for (side, shape) in shapes() {
+        for round in 0..4 {
+            let start = shape.bench(random, states::fresh(&shape));
+            let cost = shape.page() / shape.geometry.b as usize + 2;
+            // by turns any budgets at all, and always at least a step's cost
+            let least = if round % 2 == 0 { 0 } else { cost };
+            let (swapped, runs, answer) = until_done(judge, random, side, &shape, &start, least);
+            expect(answer == 1, "the swap answers Swap", &shape);
+            expect(swapped == swap_table(&shape, &start), "the swap table", &shape);
+            expect(least == 0 || runs <= 2 * shape.pages(), "2N runs for the swap", &shape);
+
+            let (reverted, runs, answer) = until_done(judge, random, side, &shape, &swapped, least);
+            expect(answer <= 1, "the revert answers Swap, or Boot after the erase", &shape);
+            let (active, dfu) = revert_images(&shape, &start);
+            expect((&reverted.active, &reverted.dfu) == (&active, &dfu), "the revert's images", &shape);
+            let label = if answer == 1 { 0xC0 } else { 0xFF };
+            expect(reverted.state == states::only_magic(&shape, label), "the state after a revert", &shape);
+            expect(least == 0 || runs <= 2 * shape.pages() + 1, "2N + 1 runs for the revert", &shape);
+        }
+    }
+}
+
+/// Boots until one isn't cut: its bench, the number of runs and the state that it answers.
+fn until_done(
+    judge: &mut Judge,
+    random: &mut Random,
+    side: &dyn Original,
+    shape: &Shape,
+    start: &Bench,
+    least: usize,
+) -> (Bench, usize, u8) {
+    let mut bench = start.clone();
+    let cost = shape.page() / shape.geometry.b as usize + 2;
+    let mut runs = 0;
+    loop {
+        // the least budget often: those runs are the slowest
+        let more = if random.once_in(2) { 0 } else { random.below(2 * cost) };
+        let call = Call { budget: (least + more) as u32, ..boot(shape.geometry) };
+        let word = judge.call(Some(side), &call, &bench);
+        bench.clone_from(judge.expected());
+        runs += 1;
+        if number_of(word) == 0 {
+            return (bench, runs, (word >> 32) as u8);
+        }
+    }
+}
+
+/// Said without running a step.
+fn swap_table(shape: &Shape, start: &Bench) -> Bench {
+    let (n, p, w) = (shape.pages(), shape.page(), shape.word());
+    let mut end = start.clone();
+    end.active.copy_from_slice(&start.dfu[..n * p]);
+    end.dfu[p..(n + 1) * p].copy_from_slice(&start.active);
+    end.state[2 * w..(2 + 2 * n) * w].fill(0);
+    end
+}
+
+fn revert_images(shape: &Shape, start: &Bench) -> (Vec<u8>, Vec<u8>) {
+    let (n, p) = (shape.pages(), shape.page());
+    let mut dfu = start.dfu.clone();
+    dfu[n * p..(n + 1) * p].copy_from_slice(&start.active[(n - 1) * p..]);
+    (start.active.clone(), dfu)
+}
+
+/// With one operation less than a step's cost, always, no step is gained.
+pub fn no_step_gained(judge: &mut Judge, random: &mut Random) {
+    for (side, shape) in shapes() {
+        let start = shape.bench(random, states::fresh(&shape));
+        let mut bench = start.clone();
+        let cost = shape.page() / shape.geometry.b as usize + 2;
+        let call = Call { budget: cost as u32 - 1, ..boot(shape.geometry) };
+        for _ in 0..5 {
+            judge.call(Some(side), &call, &bench);
+            bench.clone_from(judge.expected());
+        }
+        expect(bench.state == start.state, "one operation less gains no step", &shape);
+    }
+}
+
+/// Two runs that differ only in their images answer alike.
+pub fn images_do_not_matter(judge: &mut Judge, random: &mut Random) {
+    for (side, shape) in all_shapes() {
+        if shape.la + shape.ld > 1500 {
+            continue;
+        }
+        for kind in Kind::ALL.into_iter().filter(|kind| *kind != Kind::StateFrom) {
+            let state = states::random_state(random, &shape);
+            let first = shape.bench(random, state.clone());
+            let second = shape.bench(random, state);
+            let write = shape.geometry.wd as usize;
+            let data = random.bytes(if kind == Kind::WriteFirmware { shape.ld / write * write } else { 0 });
+            let budget = random.below(30) as u32;
+            let call = Call { kind, geometry: shape.geometry, budget, offset: 0, data: &data };
+            let one = judge.call(Some(side), &call, &first);
+            let (state, last) = (judge.expected().state.clone(), judge.expected().last);
+            let other = judge.call(Some(side), &call, &second);
+            let same = one == other && judge.expected().state == state && judge.expected().last == last;
+            expect(same, "images don't matter", &shape);
+        }
+    }
+}

@@ -1,0 +1,153 @@
+//! Geometries with their lengths: for each compiled row many chunks and lengths, and random admitted ones.
+
+use call::{Bench, Geometry, NO_SECTOR};
+use original::{Original, TABLE};
+
+use crate::random::Random;
+
+/// A geometry and the lengths of the three areas.
+#[derive(Clone, Copy, Debug)]
+pub struct Shape {
+    pub geometry: Geometry,
+    pub la: usize,
+    pub ld: usize,
+    pub ls: usize,
+}
+
+impl Shape {
+    /// P
+    pub fn page(&self) -> usize {
+        self.geometry.page() as usize
+    }
+
+    /// N
+    pub fn pages(&self) -> usize {
+        self.la / self.page()
+    }
+
+    /// Ws
+    pub fn word(&self) -> usize {
+        self.geometry.ws as usize
+    }
+
+    /// T
+    pub fn words(&self) -> usize {
+        self.ls / self.word()
+    }
+
+    /// Random images around a given state area.
+    pub fn bench(&self, random: &mut Random, state: Vec<u8>) -> Bench {
+        Bench {
+            active: image(random, self.la, self.page()),
+            dfu: image(random, self.ld, self.page()),
+            state,
+            out: Vec::new(),
+            last: NO_SECTOR,
+        }
+    }
+}
+
+/// Random bytes mostly; sometimes one byte a page, all erased or all zero.
+pub fn image(random: &mut Random, length: usize, page: usize) -> Vec<u8> {
+    match random.below(8) {
+        0 => vec![0xFF; length],
+        1 => vec![0x00; length],
+        2 => {
+            let first = random.byte();
+            (0..length).map(|i| first.wrapping_add((i / page) as u8)).collect()
+        }
+        _ => random.bytes(length),
+    }
+}
+
+/// The row's numbers with a chunk.
+pub fn geometry_of(row: &dyn Original, b: usize) -> Geometry {
+    let [ea, wa, ed, wd, es, ws] = row.numbers();
+    Geometry { ea, wa, ed, wd, es, ws, b: b as u32 }
+}
+
+/// Chunks that document 01 admits with these numbers, rising.
+pub fn chunks(g: &Geometry) -> Vec<usize> {
+    let fits = |b: &u32| {
+        g.page().is_multiple_of(*b) && b.is_multiple_of(g.wa) && b.is_multiple_of(g.wd) && *b >= g.ws
+    };
+    (1..=g.page()).filter(fits).map(|b| b as usize).collect()
+}
+
+/// The smallest, one in the middle, the largest.
+pub fn few_chunks(g: &Geometry) -> Vec<usize> {
+    let all = chunks(g);
+    let mut few: Vec<usize> =
+        [0, all.len() / 2, all.len().saturating_sub(1)].iter().filter_map(|i| all.get(*i).copied()).collect();
+    few.dedup();
+    few
+}
+
+/// State lengths for N pages: the shortest admitted, one unit and three units more.
+pub fn state_lengths(g: &Geometry, pages: usize) -> [usize; 3] {
+    let fewest = 3.max(4 * pages + 2) * g.ws as usize;
+    let units = fewest.div_ceil(g.es as usize);
+    [units, units + 1, units + 3].map(|units| units * g.es as usize)
+}
+
+/// Shapes of one compiled row; a long page takes fewer pages.
+pub fn shapes_of(row: &dyn Original) -> Vec<Shape> {
+    let page = geometry_of(row, 1).page() as usize;
+    let mut shapes = Vec::new();
+    for pages in [0, 1, 2, 3, 4, 8] {
+        if pages * page > 4096.max(page) {
+            continue;
+        }
+        for b in few_chunks(&geometry_of(row, 1)) {
+            let geometry = geometry_of(row, b);
+            for (i, ls) in state_lengths(&geometry, pages).into_iter().enumerate() {
+                let la = pages * page;
+                shapes.push(Shape { geometry, la, ld: la + page * (1 + i), ls });
+            }
+        }
+    }
+    shapes
+}
+
+/// All shapes of all compiled rows, with their side.
+pub fn all_shapes() -> Vec<(&'static dyn Original, Shape)> {
+    TABLE.iter().flat_map(|row| shapes_of(*row).into_iter().map(move |shape| (*row, shape))).collect()
+}
+
+/// The compiled row with these numbers.
+pub fn row(numbers: [u32; 6]) -> &'static dyn Original {
+    *TABLE.iter().find(|row| row.numbers() == numbers).expect("a compiled row")
+}
+
+fn lcm(a: usize, b: usize) -> usize {
+    let (mut x, mut y) = (a, b);
+    while y != 0 {
+        (x, y) = (y, x % y);
+    }
+    a / x * b
+}
+
+/// An admitted shape for boot with numbers that need not be compiled: built from the smallest unit upwards.
+pub fn random_shape(random: &mut Random) -> Shape {
+    let wa = 1 + random.below(12);
+    let wd = if random.once_in(2) { wa } else { 1 + random.below(12) };
+    let b = lcm(wa, wd) * (1 + random.below(3));
+    let page = b * (1 + random.below(4));
+    let divisors: Vec<usize> = (1..=page).filter(|d| page.is_multiple_of(*d)).collect();
+    let smaller = *random.pick(&divisors);
+    let (ea, ed) = if random.once_in(2) { (page, smaller) } else { (smaller, page) };
+    let ws = 1 + random.below(b.min(9));
+    let es = ws * (1 + random.below(20));
+    let pages = random.below(6);
+    let geometry = Geometry {
+        ea: ea as u32,
+        wa: wa as u32,
+        ed: ed as u32,
+        wd: wd as u32,
+        es: es as u32,
+        ws: ws as u32,
+        b: b as u32,
+    };
+    let ls = *random.pick(&state_lengths(&geometry, pages));
+    Shape { geometry, la: pages * page, ld: (pages + 1 + random.below(3)) * page, ls }
+}

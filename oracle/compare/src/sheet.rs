@@ -1,0 +1,178 @@
+//! Document 01's bench sheet, on all sides: the original, the model and the library.
+
+use call::{Bench, CUT, Call, DONE, Geometry, Kind, NO_SECTOR, NO_STATE, pack};
+use original::{Original, TABLE};
+
+use crate::judge::Judge;
+use crate::shapes::{geometry_of, row};
+
+fn pages(bytes: &[u8]) -> Vec<u8> {
+    bytes.iter().flat_map(|byte| [*byte; 4]).collect()
+}
+
+/// Runs of equal bytes, one after the other.
+fn runs(list: &[(usize, u8)]) -> Vec<u8> {
+    list.iter().flat_map(|(count, byte)| vec![*byte; *count]).collect()
+}
+
+struct Sheet<'a> {
+    judge: &'a mut Judge,
+    side: Option<&'static dyn Original>,
+    geometry: Geometry,
+    bench: Bench,
+    failed: usize,
+}
+
+impl<'a> Sheet<'a> {
+    fn start(judge: &'a mut Judge, numbers: [u32; 6], active: &[u8], dfu: &[u8], state: Vec<u8>) -> Self {
+        // cases that are refused need no compiled row
+        let side = TABLE.iter().find(|row| row.numbers() == numbers).copied();
+        let [ea, wa, ed, wd, es, ws] = numbers;
+        let geometry = Geometry { ea, wa, ed, wd, es, ws, b: 2 };
+        let bench = Bench { active: pages(active), dfu: pages(dfu), state, out: Vec::new(), last: NO_SECTOR };
+        Sheet { judge, side, geometry, bench, failed: 0 }
+    }
+
+    fn run(&mut self, name: &str, kind: Kind, budget: u32, word: u64) -> &mut Self {
+        let call = Call { kind, geometry: self.geometry, budget, offset: 0, data: &[] };
+        let found = self.judge.call(self.side, &call, &self.bench);
+        self.bench.clone_from(self.judge.expected());
+        self.check(name, found == word);
+        self
+    }
+
+    fn shows(&mut self, name: &str, active: &[u8], dfu: &[u8], state: &[(usize, u8)]) -> &mut Self {
+        let bench = &self.bench;
+        let same = bench.active == pages(active) && bench.dfu == pages(dfu) && bench.state == runs(state);
+        self.check(name, same);
+        self
+    }
+
+    fn check(&mut self, name: &str, right: bool) {
+        if !right {
+            println!("the sheet's case {name} comes out differently");
+            self.failed += 1;
+        }
+    }
+}
+
+const NUMBERS: [u32; 6] = [4, 2, 4, 2, 16, 1];
+const SWAPPED: (&[u8], &[u8]) = (&[4, 5, 6], &[4, 1, 2, 3]);
+const REVERTED: (&[u8], &[u8]) = (&[1, 2, 3], &[4, 5, 6, 3]);
+
+fn sheet(judge: &mut Judge) -> Sheet<'_> {
+    Sheet::start(judge, NUMBERS, &[1, 2, 3], &[4, 5, 6, 7], runs(&[(1, 0xF0), (15, 0xFF)]))
+}
+
+fn swapped(judge: &mut Judge) -> Sheet<'_> {
+    let mut s = sheet(judge);
+    s.run("a", Kind::PrepareBoot, 24, pack(DONE, 1, 24));
+    s
+}
+
+/// True if every case is as the paper says.
+pub fn check(judge: &mut Judge) -> bool {
+    let boot = Kind::PrepareBoot;
+    let mut failed = 0;
+    let a = [(1, 0xF0), (1, 0xFF), (6, 0), (8, 0xFF)];
+    failed += swapped(judge).shows("a", SWAPPED.0, SWAPPED.1, &a).failed;
+    let b = [(1, 0xF0), (1, 0xFF), (5, 0), (9, 0xFF)];
+    failed +=
+        sheet(judge).run("b", boot, 23, pack(CUT, NO_STATE, 23)).shows("b", SWAPPED.0, SWAPPED.1, &b).failed;
+    let c = [(1, 0xF0), (1, 0xFF), (1, 0), (13, 0xFF)];
+    failed += sheet(judge)
+        .run("c", boot, 4, pack(CUT, NO_STATE, 4))
+        .shows("c", &[1, 2, 3], &[4, 5, 6, 3], &c)
+        .failed;
+    let fresh = [(1, 0xF0), (15, 0xFF)];
+    failed += sheet(judge)
+        .run("d", boot, 1, pack(CUT, NO_STATE, 1))
+        .shows("d", &[1, 2, 3], &[4, 5, 6, 0xFF], &fresh)
+        .failed;
+    failed += sheet(judge)
+        .run("e", boot, 0, pack(CUT, NO_STATE, 0))
+        .shows("e", &[1, 2, 3], &[4, 5, 6, 7], &fresh)
+        .failed;
+    let reverted = [(1, 0xC0), (15, 0xFF)];
+    failed += swapped(judge)
+        .run("f", boot, 27, pack(DONE, 1, 27))
+        .shows("f", REVERTED.0, REVERTED.1, &reverted)
+        .run("f, then boot", boot, 0, pack(DONE, 2, 0))
+        .failed;
+    let g = [(1, 0xF0), (1, 0), (12, 0), (2, 0xFF)];
+    failed += swapped(judge)
+        .run("g", boot, 25, pack(CUT, NO_STATE, 25))
+        .shows("g", REVERTED.0, REVERTED.1, &g)
+        .run("h", boot, 3, pack(DONE, 1, 3))
+        .shows("h", REVERTED.0, REVERTED.1, &reverted)
+        .failed;
+    failed += swapped(judge)
+        .run("i", boot, 26, pack(CUT, NO_STATE, 26))
+        .run("i", boot, 0, pack(DONE, 0, 0))
+        .shows("i", REVERTED.0, REVERTED.1, &[(16, 0xFF)])
+        .failed;
+    failed += swapped(judge)
+        .run("j", Kind::StateMarkBooted, 1, pack(CUT, NO_STATE, 1))
+        .run("j", boot, 3, pack(DONE, 1, 3))
+        .shows("j", SWAPPED.0, SWAPPED.1, &reverted)
+        .failed;
+    failed += k_and_l(judge);
+    failed += others(judge);
+    failed == 0
+}
+
+fn k_and_l(judge: &mut Judge) -> usize {
+    let boot = Kind::PrepareBoot;
+    let start = runs(&[(1, 0xF0), (13, 0xFF)]);
+    let k = Sheet::start(judge, [4, 2, 4, 2, 14, 1], &[1, 2, 3], &[4, 5, 6, 7], start)
+        .run("k", boot, 24, pack(DONE, 1, 24))
+        .run("k", Kind::StateMarkBooted, 1, pack(CUT, NO_STATE, 1))
+        .run("k", boot, 7, pack(DONE, 1, 7))
+        .shows("k", &[4, 5, 3], &[4, 1, 2, 3], &[(1, 0xC0), (13, 0xFF)])
+        .failed;
+    let l = Sheet::start(judge, [4, 2, 4, 2, 3, 1], &[], &[7], runs(&[(1, 0xF0), (2, 0xFF)]))
+        .run("l", boot, 3, pack(DONE, 1, 3))
+        .shows("l", &[], &[7], &[(1, 0xC0), (2, 0xFF)])
+        .failed;
+    k + l
+}
+
+/// The examples below the sheet.
+fn others(judge: &mut Judge) -> usize {
+    let boot = Kind::PrepareBoot;
+    let short = Sheet::start(judge, [4, 2, 4, 2, 13, 1], &[1, 2, 3], &[4, 5, 6, 7], runs(&[(13, 0xF0)]))
+        .run("13 words", boot, 9, pack(4, NO_STATE, 0))
+        .failed;
+    let two = Sheet::start(judge, [4, 2, 4, 2, 2, 1], &[], &[7], runs(&[(1, 0xF0), (1, 0xFF)]))
+        .run("two words", boot, 9, pack(4, NO_STATE, 0))
+        .failed;
+    let mark = Sheet::start(judge, NUMBERS, &[], &[], runs(&[(16, 0xFF)]))
+        .run("mark", Kind::StateMarkUpdated, 9, pack(DONE, NO_STATE, 3))
+        .run("mark again", Kind::StateMarkUpdated, 9, pack(DONE, NO_STATE, 0))
+        .failed;
+    let magic = Sheet::start(judge, [4, 2, 4, 2, 4, 4], &[], &[], runs(&[(3, 0xF0), (5, 0xFF)]))
+        .run("near miss", Kind::StateGetState, 0, pack(DONE, 0, 0))
+        .failed;
+    short + two + mark + magic + writes(judge)
+}
+
+fn writes(judge: &mut Judge) -> usize {
+    let side = row(NUMBERS);
+    let mut bench = Bench { dfu: vec![0; 16], state: vec![0xFF; 16], last: NO_SECTOR, ..Bench::default() };
+    let mut failed = 0;
+    let mut write = |offset: u64, data: &[u8], word: u64, last: u32, start: &[u8]| {
+        let geometry = geometry_of(side, 2);
+        let call = Call { kind: Kind::WriteFirmware, geometry, budget: 99, offset, data };
+        let found = judge.call(Some(side), &call, &bench);
+        bench.clone_from(judge.expected());
+        if found != word || bench.last != last || &bench.dfu[..8] != start {
+            println!("the sheet's write at {offset} comes out differently");
+            failed += 1;
+        }
+    };
+    write(2, &[1, 2, 3, 4], pack(DONE, NO_STATE, 4), 1, &[0xFF, 0xFF, 1, 2, 3, 4, 0xFF, 0xFF]);
+    write(0, &[9, 9], pack(DONE, NO_STATE, 2), 0, &[9, 9, 0xFF, 0xFF, 3, 4, 0xFF, 0xFF]);
+    write(1, &[9, 9], pack(6, NO_STATE, 0), 0, &[9, 9, 0xFF, 0xFF, 3, 4, 0xFF, 0xFF]);
+    write(1, &[], pack(DONE, NO_STATE, 0), 0, &[9, 9, 0xFF, 0xFF, 3, 4, 0xFF, 0xFF]);
+    failed
+}

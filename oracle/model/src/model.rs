@@ -1,0 +1,533 @@
+//! Document 01's definitions as they stand: a call is the list of operations of its run without a budget. A
+//! budget K keeps the first K; the call is cut exactly if there are more.
+//!
+//! The model can be told to err in one named way (`Wrong`): that is how the comparison itself is tested.
+
+use call::{Answers, CUT, Call, DONE, Kind, Lent, NO_SECTOR, NO_STATE, pack};
+
+use crate::table::{self, Lengths};
+
+/// One way to get document 01 wrong.
+#[derive(Clone, Copy, PartialEq, Eq, Debug)]
+pub enum Wrong {
+    Nothing,
+    LowPagesFirst,
+    RevertHighPagesFirst,
+    CountOneMore,
+    CutCountOneLess,
+    ProgressMinus2,
+    ProgressMinus4,
+    MarkDoneByAnyByte,
+    ProgressReadOnce,
+    MemoryForgottenAfterCut,
+    MemorySetBeforeErase,
+    MemoryClearedByNoErase,
+    EmptyDataRangeChecked,
+    InvalidateAlways,
+    RevertAnswered,
+    SwapNotRefused,
+    WriteReplaces,
+    StateEraseFirstUnit,
+    ReadStateAnyByte,
+    BudgetOneMore,
+    DfuMayEqualActive,
+    OffsetTruncated,
+    HigherRefusalFirst,
+    AreaLimitOneLess,
+    OneStateWordEnough,
+    EmptyBytesReadBoot,
+    RangeBeforeState,
+    ReadDfuRefusesSwap,
+    ShortStateRefused,
+    ExactBudgetIsACut,
+    MarkDoneOnlyByZero,
+    InvalidOnlyByZero,
+    ErasedSectorNotErased,
+    PageWrittenAtOnce,
+}
+
+impl Wrong {
+    pub const ALL: [(&'static str, Wrong); 33] = [
+        ("low-pages-first", Wrong::LowPagesFirst),
+        ("revert-high-pages-first", Wrong::RevertHighPagesFirst),
+        ("count-one-more", Wrong::CountOneMore),
+        ("cut-count-one-less", Wrong::CutCountOneLess),
+        ("progress-minus-2", Wrong::ProgressMinus2),
+        ("progress-minus-4", Wrong::ProgressMinus4),
+        ("mark-done-by-any-byte", Wrong::MarkDoneByAnyByte),
+        ("progress-read-once", Wrong::ProgressReadOnce),
+        ("memory-forgotten-after-cut", Wrong::MemoryForgottenAfterCut),
+        ("memory-set-before-erase", Wrong::MemorySetBeforeErase),
+        ("memory-cleared-by-no-erase", Wrong::MemoryClearedByNoErase),
+        ("empty-data-range-checked", Wrong::EmptyDataRangeChecked),
+        ("invalidate-always", Wrong::InvalidateAlways),
+        ("revert-answered", Wrong::RevertAnswered),
+        ("swap-not-refused", Wrong::SwapNotRefused),
+        ("write-replaces", Wrong::WriteReplaces),
+        ("state-erase-first-unit", Wrong::StateEraseFirstUnit),
+        ("read-state-any-byte", Wrong::ReadStateAnyByte),
+        ("budget-one-more", Wrong::BudgetOneMore),
+        ("dfu-may-equal-active", Wrong::DfuMayEqualActive),
+        ("offset-truncated", Wrong::OffsetTruncated),
+        ("higher-refusal-first", Wrong::HigherRefusalFirst),
+        ("area-limit-one-less", Wrong::AreaLimitOneLess),
+        ("one-state-word-enough", Wrong::OneStateWordEnough),
+        ("empty-bytes-read-boot", Wrong::EmptyBytesReadBoot),
+        ("range-before-state", Wrong::RangeBeforeState),
+        ("read-dfu-refuses-swap", Wrong::ReadDfuRefusesSwap),
+        ("short-state-refused", Wrong::ShortStateRefused),
+        ("exact-budget-is-a-cut", Wrong::ExactBudgetIsACut),
+        ("mark-done-only-by-zero", Wrong::MarkDoneOnlyByZero),
+        ("invalid-only-by-zero", Wrong::InvalidOnlyByZero),
+        ("erased-sector-not-erased", Wrong::ErasedSectorNotErased),
+        ("page-written-at-once", Wrong::PageWrittenAtOnce),
+    ];
+
+    pub fn named(name: &str) -> Option<Wrong> {
+        Wrong::ALL.iter().find(|(given, _)| *given == name).map(|(_, wrong)| *wrong)
+    }
+}
+
+const ERASED: u8 = 0xFF;
+const MARK: u8 = 0x00;
+const BOOT: u8 = 0;
+const SWAP: u8 = 1;
+const REVERT: u8 = 2;
+const DFU_DETACH: u8 = 3;
+
+/// The magic byte of each state, by the state's number.
+const MAGICS: [u8; 4] = [0xD0, 0xF0, 0xC0, 0xE0];
+
+#[derive(Clone, Copy, PartialEq, Eq)]
+enum Area {
+    Active,
+    Dfu,
+    State,
+}
+
+enum Operation {
+    Erase {
+        area: Area,
+        from: usize,
+        length: usize,
+    },
+    Write {
+        area: Area,
+        at: usize,
+        bytes: Vec<u8>,
+    },
+    /// no operation: from here on the updater remembers this sector
+    Remember(u32),
+}
+
+/// One page copy of the tables.
+struct Copy {
+    to: Area,
+    source: usize,
+    target: usize,
+    step: usize,
+}
+
+/// The three areas, and the operations done to them so far.
+struct Run {
+    wrong: Wrong,
+    active: Vec<u8>,
+    dfu: Vec<u8>,
+    state: Vec<u8>,
+    word: usize,
+    operations: Vec<Operation>,
+}
+
+pub struct Model {
+    pub wrong: Wrong,
+}
+
+impl Model {
+    pub const RIGHT: Model = Model { wrong: Wrong::Nothing };
+}
+
+impl Answers for Model {
+    fn answer(&self, call: &Call, lent: Lent) -> u64 {
+        if call.kind == Kind::StateFrom {
+            return u64::from(self.state_of(call.data));
+        }
+        let refused = self.refusal(call, &lent);
+        if refused != 0 {
+            return pack(refused, NO_STATE, 0);
+        }
+        match call.kind {
+            Kind::PrepareBoot => self.with_budget(call, lent, |run| run.boot(call)),
+            Kind::ReadState | Kind::StateGetState | Kind::UpdaterGetState => {
+                pack(DONE, self.state_of(&lent.state[..call.geometry.ws as usize]), 0)
+            }
+            Kind::StateMarkUpdated | Kind::UpdaterMarkUpdated => {
+                self.with_budget(call, lent, |run| run.mark(call, SWAP))
+            }
+            Kind::StateMarkDfu | Kind::UpdaterMarkDfu => {
+                self.with_budget(call, lent, |run| run.mark(call, DFU_DETACH))
+            }
+            Kind::StateMarkBooted | Kind::UpdaterMarkBooted => {
+                self.with_budget(call, lent, |run| run.mark(call, BOOT))
+            }
+            Kind::ReadDfu => {
+                let at = call.offset as usize;
+                lent.out.copy_from_slice(&lent.dfu[at..at + lent.out.len()]);
+                pack(DONE, NO_STATE, 0)
+            }
+            Kind::WriteFirmware => {
+                let last = *lent.last;
+                self.with_budget(call, lent, |run| run.write_firmware(call, last))
+            }
+            Kind::PrepareUpdate => self.with_budget(call, lent, |run| {
+                run.erase(Area::Dfu, 0, run.dfu.len());
+                NO_STATE
+            }),
+            Kind::StateFrom => unreachable!("answered above"),
+        }
+    }
+}
+
+impl Model {
+    fn refusal(&self, call: &Call, lent: &Lent) -> u8 {
+        let lengths = Lengths {
+            active: lent.active.len(),
+            dfu: lent.dfu.len(),
+            state: lent.state.len(),
+            out: lent.out.len(),
+        };
+        let word = call.geometry.ws as usize;
+        let right = table::refusal(call, &lengths, || self.state_of(&lent.state[..word]) == SWAP);
+        match self.wrong {
+            Wrong::Nothing => right,
+            _ => self.spoilt_refusal(right, call, lent, lengths),
+        }
+    }
+
+    /// The table's answer, spoilt where the model is told to err there.
+    fn spoilt_refusal(&self, right: u8, call: &Call, lent: &Lent, lengths: Lengths) -> u8 {
+        let word = call.geometry.ws as usize;
+        let page = call.geometry.page() as usize;
+        let truncated = Call { offset: call.offset & 0xFFFF_FFFF, ..*call };
+        match self.wrong {
+            Wrong::EmptyDataRangeChecked
+                if right == 0 && call.kind == Kind::WriteFirmware && call.offset > lengths.dfu as u64 =>
+            {
+                6
+            }
+            Wrong::SwapNotRefused if right == 5 => table::refusal(call, &lengths, || false),
+            Wrong::DfuMayEqualActive if right == 3 && call.kind == Kind::PrepareBoot => {
+                // says nothing about the short DFU; a later row may still speak
+                let longer = Lengths { dfu: lengths.active + page, ..lengths };
+                let later = table::refusal(call, &longer, || false);
+                if later == 0 && lent.dfu.len() >= lent.active.len() { 7 } else { right }
+            }
+            Wrong::OffsetTruncated if right == 6 && call.kind == Kind::WriteFirmware => {
+                table::refusal(&truncated, &lengths, || false)
+            }
+            Wrong::HigherRefusalFirst if right == 3 => {
+                let good = Lengths { active: 0, dfu: page.max(1), ..lengths };
+                match table::refusal(call, &good, || false) {
+                    4 => 4,
+                    _ => right,
+                }
+            }
+            Wrong::AreaLimitOneLess if right != 1 && lengths.state == 1_048_576 => 1,
+            Wrong::OneStateWordEnough if right == 4 && call.kind == Kind::StateGetState => {
+                let words = Lengths { state: 2 * lengths.state, ..lengths };
+                table::refusal(call, &words, || false)
+            }
+            Wrong::RangeBeforeState if right == 5 => match table::refusal(call, &lengths, || false) {
+                6 => 6,
+                _ => 5,
+            },
+            Wrong::ReadDfuRefusesSwap
+                if right == 0 && call.kind == Kind::ReadDfu && self.state_of(&lent.state[..word]) == SWAP =>
+            {
+                5
+            }
+            Wrong::ShortStateRefused
+                if right == 0
+                    && call.kind == Kind::PrepareBoot
+                    && lengths.state / word < 4 * (lengths.active / page) + 3 =>
+            {
+                4
+            }
+            _ => right,
+        }
+    }
+
+    /// Word byte to state: the word must hold the byte throughout.
+    fn state_of(&self, word: &[u8]) -> u8 {
+        if self.wrong == Wrong::EmptyBytesReadBoot && word.is_empty() {
+            return BOOT;
+        }
+        let holds = |state: u8| match self.wrong {
+            Wrong::ReadStateAnyByte => word.first() == Some(&MAGICS[state as usize]) || word.is_empty(),
+            _ => word.iter().all(|byte| *byte == MAGICS[state as usize]),
+        };
+        [SWAP, REVERT, DFU_DETACH].into_iter().find(|state| holds(*state)).unwrap_or(BOOT)
+    }
+
+    /// Lets the call run without a budget on a copy, then does the first K operations to the areas.
+    fn with_budget(&self, call: &Call, lent: Lent, body: impl FnOnce(&mut Run) -> u8) -> u64 {
+        let mut run = Run {
+            wrong: self.wrong,
+            active: lent.active.to_vec(),
+            dfu: lent.dfu.to_vec(),
+            state: lent.state.to_vec(),
+            word: call.geometry.ws as usize,
+            operations: Vec::new(),
+        };
+        let state = body(&mut run);
+        let budget = match self.wrong {
+            Wrong::BudgetOneMore => u64::from(call.budget) + 1,
+            _ => u64::from(call.budget),
+        };
+        let wanted = run.operations.iter().filter(|op| op.counts()).count() as u64;
+        let mut left = budget.min(wanted);
+        let entry = *lent.last;
+        for operation in &run.operations {
+            match operation {
+                Operation::Remember(sector) => *lent.last = *sector,
+                _ if left == 0 => break,
+                Operation::Erase { area, .. } | Operation::Write { area, .. } => {
+                    let bytes = match area {
+                        Area::Active => &mut *lent.active,
+                        Area::Dfu => &mut *lent.dfu,
+                        Area::State => &mut *lent.state,
+                    };
+                    operation.apply(bytes, self.wrong);
+                    left -= 1;
+                }
+            }
+        }
+        let done = budget.min(wanted) as u32;
+        if budget < wanted || (self.wrong == Wrong::ExactBudgetIsACut && budget == wanted && wanted > 0) {
+            if self.wrong == Wrong::MemoryForgottenAfterCut {
+                *lent.last = entry;
+            }
+            let counted = if self.wrong == Wrong::CutCountOneLess { done.saturating_sub(1) } else { done };
+            return pack(CUT, NO_STATE, counted);
+        }
+        let counted = if self.wrong == Wrong::CountOneMore && done > 3 { done + 1 } else { done };
+        pack(DONE, state, counted)
+    }
+}
+
+impl Operation {
+    fn counts(&self) -> bool {
+        !matches!(self, Operation::Remember(_))
+    }
+
+    fn apply(&self, area: &mut [u8], wrong: Wrong) {
+        match self {
+            Operation::Erase { from, length, .. } => area[*from..from + length].fill(ERASED),
+            Operation::Write { at, bytes, .. } => {
+                for (old, new) in area[*at..].iter_mut().zip(bytes) {
+                    *old = if wrong == Wrong::WriteReplaces { *new } else { *old & *new };
+                }
+            }
+            Operation::Remember(_) => {}
+        }
+    }
+}
+
+impl Run {
+    fn perform(&mut self, operation: Operation) {
+        match operation {
+            Operation::Erase { area, .. } | Operation::Write { area, .. } => {
+                let wrong = self.wrong;
+                operation.apply(self.area_mut(area), wrong)
+            }
+            Operation::Remember(_) => {}
+        }
+        self.operations.push(operation);
+    }
+
+    fn erase(&mut self, area: Area, from: usize, length: usize) {
+        self.perform(Operation::Erase { area, from, length });
+    }
+
+    fn write(&mut self, area: Area, at: usize, bytes: Vec<u8>) {
+        self.perform(Operation::Write { area, at, bytes });
+    }
+
+    fn write_word(&mut self, word: usize, byte: u8) {
+        self.write(Area::State, word * self.word, vec![byte; self.word]);
+    }
+
+    fn area(&self, area: Area) -> &[u8] {
+        match area {
+            Area::Active => &self.active,
+            Area::Dfu => &self.dfu,
+            Area::State => &self.state,
+        }
+    }
+
+    fn area_mut(&mut self, area: Area) -> &mut [u8] {
+        match area {
+            Area::Active => &mut self.active,
+            Area::Dfu => &mut self.dfu,
+            Area::State => &mut self.state,
+        }
+    }
+
+    fn word(&self, index: usize) -> &[u8] {
+        &self.state[index * self.word..(index + 1) * self.word]
+    }
+
+    fn valid(&self) -> bool {
+        match self.wrong {
+            Wrong::InvalidOnlyByZero => self.word(1).iter().any(|byte| *byte != MARK),
+            _ => self.word(1).iter().all(|byte| *byte == ERASED),
+        }
+    }
+
+    /// A mark is done when no byte of it is FF.
+    fn done(&self, step: usize) -> bool {
+        let word = self.word(2 + step);
+        match self.wrong {
+            Wrong::MarkDoneByAnyByte => word.iter().any(|byte| *byte != ERASED),
+            Wrong::MarkDoneOnlyByZero => word.iter().all(|byte| *byte == MARK),
+            _ => word.iter().all(|byte| *byte != ERASED),
+        }
+    }
+
+    fn progress(&self) -> usize {
+        let words = self.state.len() / self.word;
+        let most = match self.wrong {
+            Wrong::ProgressMinus2 => words - 2,
+            Wrong::ProgressMinus4 => words.saturating_sub(4),
+            _ => words - 3,
+        };
+        if !self.valid() {
+            return most;
+        }
+        (0..most).find(|step| !self.done(*step)).unwrap_or(most)
+    }
+
+    fn boot(&mut self, call: &Call) -> u8 {
+        let entry = Model { wrong: self.wrong }.state_of(self.word(0));
+        if entry != SWAP {
+            return entry;
+        }
+        let page = call.geometry.page() as usize;
+        let chunk = call.geometry.b as usize;
+        let pages = self.active.len() / page;
+        if self.progress() < 2 * pages {
+            let order: Vec<usize> = match self.wrong {
+                Wrong::LowPagesFirst => (0..pages).collect(),
+                _ => (0..pages).rev().collect(),
+            };
+            self.copies(swap_copies(&order), page, chunk);
+            return SWAP;
+        }
+        let order: Vec<usize> = match self.wrong {
+            Wrong::RevertHighPagesFirst => (0..pages).rev().collect(),
+            _ => (0..pages).collect(),
+        };
+        self.copies(revert_copies(pages, &order), page, chunk);
+        self.write_word(1, MARK);
+        self.erase_state(call);
+        self.write_word(0, MAGICS[REVERT as usize]);
+        if self.wrong == Wrong::RevertAnswered { REVERT } else { SWAP }
+    }
+
+    /// Runs a list of copies, reading progress afresh before each.
+    fn copies(&mut self, list: Vec<Copy>, page: usize, chunk: usize) {
+        let at_entry = self.progress();
+        for copy in list {
+            let progress = match self.wrong {
+                Wrong::ProgressReadOnce => at_entry,
+                _ => self.progress(),
+            };
+            if progress > copy.step {
+                continue;
+            }
+            let from = if copy.to == Area::Dfu { Area::Active } else { Area::Dfu };
+            self.erase(copy.to, copy.target * page, page);
+            let chunk = if self.wrong == Wrong::PageWrittenAtOnce { page } else { chunk };
+            for piece in 0..page / chunk {
+                let at = copy.source * page + piece * chunk;
+                let bytes = self.area(from)[at..at + chunk].to_vec();
+                self.write(copy.to, copy.target * page + piece * chunk, bytes);
+            }
+            self.write_word(2 + copy.step, MARK);
+        }
+    }
+
+    fn erase_state(&mut self, call: &Call) {
+        let length = match self.wrong {
+            Wrong::StateEraseFirstUnit => call.geometry.es as usize,
+            _ => self.state.len(),
+        };
+        self.erase(Area::State, 0, length);
+    }
+
+    fn mark(&mut self, call: &Call, state: u8) -> u8 {
+        let magic = MAGICS[state as usize];
+        if self.word(0).iter().all(|byte| *byte == magic) {
+            return NO_STATE;
+        }
+        if self.valid() || self.wrong == Wrong::InvalidateAlways {
+            self.write_word(1, MARK);
+        }
+        self.erase_state(call);
+        self.write_word(0, magic);
+        NO_STATE
+    }
+
+    fn write_firmware(&mut self, call: &Call, last: u32) -> u8 {
+        let sector_size = call.geometry.ed as usize;
+        // a refusal was given for every larger offset, but for empty data, where it isn't used
+        let mut at = if call.data.is_empty() { 0 } else { call.offset as u32 as usize };
+        let mut memory = last;
+        let mut data = call.data;
+        while !data.is_empty() {
+            let sector = at / sector_size;
+            let piece = data.len().min((sector + 1) * sector_size - at);
+            let blank =
+                self.dfu[sector * sector_size..(sector + 1) * sector_size].iter().all(|x| *x == ERASED);
+            if self.wrong == Wrong::ErasedSectorNotErased && blank {
+                memory = sector as u32;
+            }
+            if memory == NO_SECTOR || memory as usize != sector {
+                if self.wrong == Wrong::MemorySetBeforeErase {
+                    self.perform(Operation::Remember(sector as u32));
+                }
+                self.erase(Area::Dfu, sector * sector_size, sector_size);
+                self.perform(Operation::Remember(sector as u32));
+                memory = sector as u32;
+            } else if self.wrong == Wrong::MemoryClearedByNoErase {
+                self.perform(Operation::Remember(NO_SECTOR));
+            }
+            self.write(Area::Dfu, at, data[..piece].to_vec());
+            data = &data[piece..];
+            at += piece;
+        }
+        NO_STATE
+    }
+}
+
+/// Page k of the swap: DFU page k + 1 from active page k, then active page k from DFU page k. The marks rise
+/// with the copies, so in the right order, k falling, these are the steps 2(N - 1 - k) and the next.
+fn swap_copies(order: &[usize]) -> Vec<Copy> {
+    let both = |(i, k): (usize, &usize)| {
+        [
+            Copy { to: Area::Dfu, source: *k, target: k + 1, step: 2 * i },
+            Copy { to: Area::Active, source: *k, target: *k, step: 2 * i + 1 },
+        ]
+    };
+    order.iter().enumerate().flat_map(both).collect()
+}
+
+/// Page k of the revert: DFU page k from active page k, then active page k from DFU page k + 1.
+fn revert_copies(pages: usize, order: &[usize]) -> Vec<Copy> {
+    let both = |(i, k): (usize, &usize)| {
+        [
+            Copy { to: Area::Dfu, source: *k, target: *k, step: 2 * pages + 2 * i },
+            Copy { to: Area::Active, source: k + 1, target: *k, step: 2 * pages + 2 * i + 1 },
+        ]
+    };
+    order.iter().enumerate().flat_map(both).collect()
+}
