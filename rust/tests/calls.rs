@@ -1,0 +1,161 @@
+//! Every call through the wrapper, compared with document 01's bench sheet: the slices, sizes and parts of a result must arrive where
+//! the library expects them. Expected values are the paper's.
+
+use embassy_boot_rattle::{
+    Answer, BootLoader, FOREVER, FirmwareState, FirmwareUpdater, Geometry, Refusal, Sizes, State,
+};
+
+const LOADER: BootLoader = BootLoader(Geometry { ea: 4, wa: 2, ed: 4, wd: 2, es: 16, ws: 1, b: 2 });
+const FIRMWARE: FirmwareState = FirmwareState { es: 16, ws: 1 };
+const SIZES: Sizes = Sizes { ed: 4, wd: 2, es: 16, ws: 1 };
+
+fn pages(bytes: &[u8]) -> Vec<u8> {
+    bytes.iter().flat_map(|byte| [*byte; 4]).collect()
+}
+
+fn runs(list: &[(usize, u8)]) -> Vec<u8> {
+    list.iter().flat_map(|(count, byte)| vec![*byte; *count]).collect()
+}
+
+/// The sheet's three areas.
+#[derive(Clone, PartialEq, Debug)]
+struct Bench {
+    active: Vec<u8>,
+    dfu: Vec<u8>,
+    state: Vec<u8>,
+}
+
+fn bench(active: &[u8], dfu: &[u8], state: &[(usize, u8)]) -> Bench {
+    Bench { active: pages(active), dfu: pages(dfu), state: runs(state) }
+}
+
+fn start() -> Bench {
+    bench(&[1, 2, 3], &[4, 5, 6, 7], &[(1, 0xF0), (15, 0xFF)])
+}
+
+fn swapped() -> Bench {
+    bench(&[4, 5, 6], &[4, 1, 2, 3], &[(1, 0xF0), (1, 0xFF), (6, 0), (8, 0xFF)])
+}
+
+fn reverted() -> Bench {
+    bench(&[1, 2, 3], &[4, 5, 6, 3], &[(1, 0xC0), (15, 0xFF)])
+}
+
+impl Bench {
+    fn boot(&mut self, budget: u32) -> Answer {
+        LOADER.prepare_boot(&mut self.active, &mut self.dfu, &mut self.state, budget)
+    }
+}
+
+#[test]
+fn a_swap_and_its_revert() {
+    let mut x = start();
+    assert_eq!(x.boot(24), Answer::Found(State::Swap, 24));
+    assert_eq!(x, swapped());
+    assert_eq!(x.boot(FOREVER), Answer::Found(State::Swap, 27));
+    assert_eq!(x, reverted());
+    assert_eq!(LOADER.read_state(&x.state), Answer::Found(State::Revert, 0));
+}
+
+#[test]
+fn cuts() {
+    let mut b = start();
+    assert_eq!(b.boot(23), Answer::Cut(23));
+    assert_eq!(b, Bench { state: runs(&[(1, 0xF0), (1, 0xFF), (5, 0), (9, 0xFF)]), ..swapped() });
+    let mut d = start();
+    assert_eq!(d.boot(1), Answer::Cut(1));
+    assert_eq!(d, bench(&[1, 2, 3], &[4, 5, 6, 0xFF], &[(1, 0xF0), (15, 0xFF)]));
+    let mut e = start();
+    assert_eq!(e.boot(0), Answer::Cut(0));
+    assert_eq!(e, start());
+    let mut i = swapped();
+    assert_eq!(i.boot(26), Answer::Cut(26));
+    assert_eq!(i.boot(FOREVER), Answer::Found(State::Boot, 0));
+    assert_eq!(i, Bench { state: runs(&[(16, 0xFF)]), ..reverted() });
+}
+
+#[test]
+fn refusals_of_a_boot() {
+    let refused = |change: fn(&mut Geometry)| {
+        let mut x = start();
+        let mut loader = LOADER;
+        change(&mut loader.0);
+        let answer = loader.prepare_boot(&mut x.active, &mut x.dfu, &mut x.state, FOREVER);
+        assert_eq!(x, start());
+        answer
+    };
+    // one change for each of the seven sizes
+    assert_eq!(refused(|g| g.ea = 65_537), Answer::Refused(Refusal::Limit));
+    assert_eq!(refused(|g| g.wa = 3), Answer::Refused(Refusal::Page));
+    assert_eq!(refused(|g| g.ed = 8), Answer::Refused(Refusal::Area));
+    assert_eq!(refused(|g| g.wd = 4), Answer::Refused(Refusal::Page));
+    assert_eq!(refused(|g| g.es = 12), Answer::Refused(Refusal::StateArea));
+    assert_eq!(refused(|g| g.ws = 2), Answer::Refused(Refusal::StateArea));
+    assert_eq!(refused(|g| g.b = 1), Answer::Refused(Refusal::Page));
+}
+
+#[test]
+fn marks_of_the_firmware_state() {
+    let mut state = vec![0xFF; 16];
+    assert_eq!(FIRMWARE.mark_updated(&mut state, 3), Answer::Done(3));
+    assert_eq!(FIRMWARE.mark_updated(&mut state, 0), Answer::Done(0));
+    assert_eq!(FIRMWARE.get_state(&state), Answer::Found(State::Swap, 0));
+    assert_eq!(FIRMWARE.mark_dfu(&mut state, FOREVER), Answer::Done(3));
+    assert_eq!(LOADER.read_state(&state), Answer::Found(State::DfuDetach, 0));
+    assert_eq!(FIRMWARE.mark_booted(&mut state, FOREVER), Answer::Done(3));
+    assert_eq!(state, runs(&[(1, 0xD0), (15, 0xFF)]));
+    assert_eq!(FirmwareState { es: 1, ws: 16 }.get_state(&state), Answer::Refused(Refusal::StateArea));
+}
+
+#[test]
+fn an_update() {
+    let mut updater = FirmwareUpdater::new(SIZES);
+    let (mut dfu, mut state) = (vec![0; 16], vec![0xFF; 16]);
+    assert_eq!(updater.last_erased(), None);
+    assert_eq!(updater.write_firmware(&mut dfu, &state, 2, &[1, 2, 3, 4], 4), Answer::Done(4));
+    assert_eq!(dfu, [0xFF, 0xFF, 1, 2, 3, 4, 0xFF, 0xFF, 0, 0, 0, 0, 0, 0, 0, 0]);
+    assert_eq!(updater.last_erased(), Some(1));
+    assert_eq!(updater.write_firmware(&mut dfu, &state, 0, &[9, 9], FOREVER), Answer::Done(2));
+    assert_eq!(dfu[..8], [9, 9, 0xFF, 0xFF, 3, 4, 0xFF, 0xFF]);
+    assert_eq!(updater.last_erased(), Some(0));
+    for offset in [1, 1 << 32, u64::MAX - 1] {
+        let answer = updater.write_firmware(&mut dfu, &state, offset, &[1, 1], FOREVER);
+        assert_eq!(answer, Answer::Refused(Refusal::Range));
+    }
+    assert_eq!(updater.write_firmware(&mut dfu, &state, 1, &[], FOREVER), Answer::Done(0));
+    assert_eq!(updater.write_firmware(&mut dfu, &state, 8, &[1, 1], 1), Answer::Cut(1));
+    assert_eq!(updater.last_erased(), Some(2));
+
+    let mut out = [7; 3];
+    assert_eq!(updater.read_dfu(&dfu, &state, 3, &mut out), Answer::Done(0));
+    assert_eq!(out, [0xFF, 3, 4]);
+    assert_eq!(updater.read_dfu(&dfu, &state, 14, &mut out), Answer::Refused(Refusal::Range));
+    assert_eq!(out, [0xFF, 3, 4]);
+
+    assert_eq!(updater.prepare_update(&mut dfu, &state, 0), Answer::Cut(0));
+    assert_eq!(updater.prepare_update(&mut dfu, &state, 1), Answer::Done(1));
+    assert_eq!(dfu, [0xFF; 16]);
+    assert_eq!(updater.last_erased(), Some(2));
+
+    assert_eq!(updater.mark_dfu(&dfu, &mut state, FOREVER), Answer::Done(3));
+    assert_eq!(updater.get_state(&dfu, &state), Answer::Found(State::DfuDetach, 0));
+    assert_eq!(updater.mark_updated(&dfu, &mut state, FOREVER), Answer::Done(3));
+    assert_eq!(updater.get_state(&dfu, &state), Answer::Found(State::Swap, 0));
+    assert_eq!(updater.mark_dfu(&dfu, &mut state, FOREVER), Answer::Refused(Refusal::BadState));
+    assert_eq!(updater.prepare_update(&mut dfu, &state, FOREVER), Answer::Refused(Refusal::BadState));
+    let answer = updater.write_firmware(&mut dfu, &state, 0, &[1, 1], FOREVER);
+    assert_eq!(answer, Answer::Refused(Refusal::BadState));
+    assert_eq!(updater.last_erased(), Some(2));
+    assert_eq!(updater.mark_booted(&dfu, &mut state, FOREVER), Answer::Done(3));
+    assert_eq!(updater.get_state(&dfu, &state), Answer::Found(State::Boot, 0));
+    assert_eq!(updater.get_state(&dfu[..15], &state), Answer::Refused(Refusal::Area));
+}
+
+#[test]
+fn states_of_words() {
+    assert_eq!(State::from_bytes(&[0xF0, 0xF0, 0xF0, 0xFF]), State::Boot);
+    assert_eq!(State::from_bytes(&[0xF0, 0xF0]), State::Swap);
+    assert_eq!(State::from_bytes(&[0xC0]), State::Revert);
+    assert_eq!(State::from_bytes(&[0xE0; 3]), State::DfuDetach);
+    assert_eq!(State::from_bytes(&[]), State::Swap);
+}

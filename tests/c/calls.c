@@ -1,0 +1,184 @@
+/* Calls every function of include/embassy_boot.h and compares with document 01's bench sheet, to see that the header says what the
+ * library defines: order and width of parameters, and where the parts of a result stand. Expected values are the paper's.
+ *
+ *   cc -std=c11 -Wall -Wextra -Werror -Iinclude tests/c/calls.c target/staticlib/libembassy_boot.a -o target/calls && target/calls
+ */
+#include "embassy_boot.h"
+
+#include <stdio.h>
+#include <string.h>
+
+static int failed;
+
+static void check(int line, int right)
+{
+    if (!right) {
+        printf("tests/c/calls.c:%d: not as document 01 says\n", line);
+        failed++;
+    }
+}
+#define CHECK(right) check(__LINE__, (right))
+
+static int is(uint64_t result, uint32_t number, uint32_t state, uint32_t operations)
+{
+    return result == ((uint64_t)number << 40 | (uint64_t)state << 32 | operations) && eb_number(result) == number
+        && eb_state(result) == state && eb_operations(result) == operations;
+}
+
+/* The sheet's areas: pages of one byte each, and a state area of runs. */
+static uint8_t active[12], dfu[16], state[16];
+
+static void pages(uint8_t *area, size_t count, const char *bytes)
+{
+    for (size_t i = 0; i < count; i++)
+        memset(area + 4 * i, bytes[i], 4);
+}
+
+static void runs(uint8_t *area, size_t n0, int b0, size_t n1, int b1, size_t n2, int b2, size_t n3, int b3)
+{
+    memset(area, b0, n0);
+    memset(area + n0, b1, n1);
+    memset(area + n0 + n1, b2, n2);
+    memset(area + n0 + n1 + n2, b3, n3);
+}
+
+static void start(void)
+{
+    pages(active, 3, "\1\2\3");
+    pages(dfu, 4, "\4\5\6\7");
+    runs(state, 1, 0xF0, 15, 0xFF, 0, 0, 0, 0);
+}
+
+static int shows(const char *a, const char *d, const uint8_t *s)
+{
+    uint8_t x[12], y[16];
+    pages(x, 3, a);
+    pages(y, 4, d);
+    return !memcmp(active, x, 12) && !memcmp(dfu, y, 16) && !memcmp(state, s, 16);
+}
+
+static uint64_t boot(uint32_t budget)
+{
+    return eb_prepare_boot(active, 12, dfu, 16, state, 16, 4, 2, 4, 2, 16, 1, 2, budget);
+}
+
+static void boots(void)
+{
+    uint8_t s[16];
+
+    start(); /* a */
+    CHECK(is(boot(24), EB_DONE, EB_SWAP, 24));
+    runs(s, 1, 0xF0, 1, 0xFF, 6, 0, 8, 0xFF);
+    CHECK(shows("\4\5\6", "\4\1\2\3", s));
+    CHECK(is(boot(27), EB_DONE, EB_SWAP, 27)); /* f */
+    runs(s, 1, 0xC0, 15, 0xFF, 0, 0, 0, 0);
+    CHECK(shows("\1\2\3", "\4\5\6\3", s));
+    CHECK(is(eb_read_state(state, 16, 16, 1), EB_DONE, EB_REVERT, 0));
+
+    start(); /* c, d, e */
+    CHECK(is(boot(4), EB_CUT, EB_NO_STATE, 4));
+    runs(s, 1, 0xF0, 1, 0xFF, 1, 0, 13, 0xFF);
+    CHECK(shows("\1\2\3", "\4\5\6\3", s));
+    start();
+    runs(s, 1, 0xF0, 15, 0xFF, 0, 0, 0, 0);
+    CHECK(is(boot(1), EB_CUT, EB_NO_STATE, 1));
+    CHECK(shows("\1\2\3", "\4\5\6\xFF", s));
+    start();
+    CHECK(is(boot(0), EB_CUT, EB_NO_STATE, 0));
+    CHECK(shows("\1\2\3", "\4\5\6\7", s));
+
+    start(); /* j: the progress is invalidated, and no more */
+    CHECK(is(boot(24), EB_DONE, EB_SWAP, 24));
+    CHECK(is(eb_state_mark_booted(state, 16, 16, 1, 1), EB_CUT, EB_NO_STATE, 1));
+    CHECK(is(boot(3), EB_DONE, EB_SWAP, 3));
+    runs(s, 1, 0xC0, 15, 0xFF, 0, 0, 0, 0);
+    CHECK(shows("\4\5\6", "\4\1\2\3", s));
+
+    /* each size is read: the refusals of rows 1 to 4 */
+    start();
+    CHECK(is(eb_prepare_boot(active, 12, dfu, 16, state, 16, 0, 2, 4, 2, 16, 1, 2, 9), EB_LIMIT, EB_NO_STATE, 0));
+    CHECK(is(eb_prepare_boot(active, 12, dfu, 16, state, 16, 4, 3, 4, 2, 16, 1, 2, 9), EB_PAGE, EB_NO_STATE, 0));
+    CHECK(is(eb_prepare_boot(active, 12, dfu, 12, state, 16, 4, 2, 4, 2, 16, 1, 2, 9), EB_AREA, EB_NO_STATE, 0));
+    CHECK(is(eb_prepare_boot(active, 12, dfu, 16, state, 13, 4, 2, 4, 2, 13, 1, 2, 9), EB_STATE_AREA, EB_NO_STATE, 0));
+    runs(s, 1, 0xF0, 15, 0xFF, 0, 0, 0, 0);
+    CHECK(shows("\1\2\3", "\4\5\6\7", s));
+}
+
+static void states(void)
+{
+    uint8_t s[16];
+
+    memset(state, 0xFF, 16);
+    CHECK(is(eb_state_mark_updated(state, 16, 16, 1, 3), EB_DONE, EB_NO_STATE, 3));
+    CHECK(is(eb_state_mark_updated(state, 16, 16, 1, 0), EB_DONE, EB_NO_STATE, 0));
+    CHECK(is(eb_state_get_state(state, 16, 16, 1), EB_DONE, EB_SWAP, 0));
+    CHECK(is(eb_state_mark_dfu(state, 16, 16, 1, 9), EB_DONE, EB_NO_STATE, 3));
+    CHECK(is(eb_read_state(state, 16, 16, 1), EB_DONE, EB_DFU_DETACH, 0));
+    CHECK(is(eb_state_mark_booted(state, 16, 16, 1, 9), EB_DONE, EB_NO_STATE, 3));
+    runs(s, 1, 0xD0, 15, 0xFF, 0, 0, 0, 0);
+    CHECK(!memcmp(state, s, 16));
+    CHECK(is(eb_state_get_state(state, 16, 16, 1), EB_DONE, EB_BOOT, 0));
+    CHECK(is(eb_state_get_state(state, 16, 1, 16), EB_STATE_AREA, EB_NO_STATE, 0));
+
+    CHECK(eb_state_from((const uint8_t *)"\xF0\xF0\xF0\xFF", 4) == EB_BOOT);
+    CHECK(eb_state_from((const uint8_t *)"\xF0\xF0", 2) == EB_SWAP);
+    CHECK(eb_state_from((const uint8_t *)"\xC0", 1) == EB_REVERT);
+    CHECK(eb_state_from((const uint8_t *)"\xE0\xE0\xE0", 3) == EB_DFU_DETACH);
+    CHECK(eb_state_from((const uint8_t *)"", 0) == EB_SWAP);
+}
+
+static uint64_t write(uint64_t offset, const char *bytes, size_t n, uint32_t *last, uint32_t budget)
+{
+    return eb_updater_write_firmware(dfu, 16, state, 16, 4, 2, 16, 1, offset, (const uint8_t *)bytes, n, last, budget);
+}
+
+static void updates(void)
+{
+    uint8_t out[4];
+    uint32_t last = EB_NO_SECTOR;
+
+    memset(dfu, 0, 16);
+    memset(state, 0xFF, 16);
+    CHECK(is(write(2, "\1\2\3\4", 4, &last, 4), EB_DONE, EB_NO_STATE, 4));
+    CHECK(!memcmp(dfu, "\xFF\xFF\1\2\3\4\xFF\xFF\0\0\0\0\0\0\0\0", 16) && last == 1);
+    CHECK(is(write(0, "\x09\x09", 2, &last, 9), EB_DONE, EB_NO_STATE, 2));
+    CHECK(!memcmp(dfu, "\x09\x09\xFF\xFF\3\4\xFF\xFF", 8) && last == 0);
+    CHECK(is(write(1, "\1\1", 2, &last, 9), EB_RANGE, EB_NO_STATE, 0) && last == 0);
+    CHECK(is(write(UINT64_C(1) << 32, "\1\1", 2, &last, 9), EB_RANGE, EB_NO_STATE, 0) && last == 0);
+    CHECK(is(write(1, "", 0, &last, 9), EB_DONE, EB_NO_STATE, 0) && last == 0);
+    CHECK(is(write(8, "\1\1", 2, &last, 0), EB_CUT, EB_NO_STATE, 0) && last == 0);
+    CHECK(is(write(8, "\1\1", 2, &last, 1), EB_CUT, EB_NO_STATE, 1) && last == 2);
+
+    memcpy(out, "....", 4);
+    CHECK(is(eb_updater_read_dfu(dfu, 16, state, 16, 4, 2, 16, 1, 3, out, 3), EB_DONE, EB_NO_STATE, 0));
+    CHECK(!memcmp(out, "\xFF\3\4.", 4));
+    CHECK(is(eb_updater_read_dfu(dfu, 16, state, 16, 4, 2, 16, 1, 14, out, 3), EB_RANGE, EB_NO_STATE, 0));
+    CHECK(!memcmp(out, "\xFF\3\4.", 4));
+
+    CHECK(is(eb_updater_prepare_update(dfu, 16, state, 16, 4, 2, 16, 1, 0), EB_CUT, EB_NO_STATE, 0));
+    CHECK(dfu[0] == 9);
+    CHECK(is(eb_updater_prepare_update(dfu, 16, state, 16, 4, 2, 16, 1, 1), EB_DONE, EB_NO_STATE, 1));
+    CHECK(!memcmp(dfu, "\xFF\xFF\xFF\xFF\xFF\xFF\xFF\xFF\xFF\xFF\xFF\xFF\xFF\xFF\xFF\xFF", 16));
+
+    CHECK(is(eb_updater_mark_dfu(dfu, 16, state, 16, 4, 2, 16, 1, 9), EB_DONE, EB_NO_STATE, 3));
+    CHECK(is(eb_updater_get_state(dfu, 16, state, 16, 4, 2, 16, 1), EB_DONE, EB_DFU_DETACH, 0));
+    CHECK(is(eb_updater_mark_updated(dfu, 16, state, 16, 4, 2, 16, 1, 9), EB_DONE, EB_NO_STATE, 3));
+    CHECK(is(eb_updater_get_state(dfu, 16, state, 16, 4, 2, 16, 1), EB_DONE, EB_SWAP, 0));
+    CHECK(is(eb_updater_mark_dfu(dfu, 16, state, 16, 4, 2, 16, 1, 9), EB_BAD_STATE, EB_NO_STATE, 0));
+    CHECK(is(write(0, "\1\1", 2, &last, 9), EB_BAD_STATE, EB_NO_STATE, 0) && last == 2);
+    CHECK(is(eb_updater_prepare_update(dfu, 16, state, 16, 4, 2, 16, 1, 9), EB_BAD_STATE, EB_NO_STATE, 0));
+    CHECK(is(eb_updater_mark_booted(dfu, 16, state, 16, 4, 2, 16, 1, 9), EB_DONE, EB_NO_STATE, 3));
+    CHECK(is(eb_updater_get_state(dfu, 16, state, 16, 4, 2, 16, 1), EB_DONE, EB_BOOT, 0));
+    CHECK(is(eb_updater_mark_booted(dfu, 15, state, 16, 4, 2, 16, 1, 9), EB_AREA, EB_NO_STATE, 0));
+    CHECK(is(eb_updater_mark_updated(dfu, 16, state, 16, 3, 2, 16, 1, 9), EB_PAGE, EB_NO_STATE, 0));
+}
+
+int main(void)
+{
+    boots();
+    states();
+    updates();
+    if (!failed)
+        puts("every call as document 01 says");
+    return failed != 0;
+}
