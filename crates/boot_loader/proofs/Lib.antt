@@ -3,3 +3,4 @@ pub mod Room
 pub mod Copies
 pub mod Steps
 pub mod Boots
+pub mod Unique

@@ -5,3 +5,4 @@ pub mod Answers
 pub mod Thin
 pub mod Returned
 pub mod Marks
+pub mod Unique

@@ -8,6 +8,7 @@ use Rattle.geometry.specs.Refusals.{any, rowFrom, lowest, mostNumber, mostLengt
 use Rattle.rules.specs.Steps.{pageCount}
 use Rattle.rules.specs.Power.{magicArea, Fresh, swapMarks, swapTable, pageAt, withPage, revertImages, reverted, revertedErased}
 use Rattle.rules.specs.Sheet.{sizes, fresh, pages as filled, zeros, ff}
+use Rattle.rules.proofs.Sheet.{swapped-sheet, reverted-sheet}
 use Rattle.power.specs.Power.{Marked, Ready}
 use Rattle.power.specs.Bench.{noPages, OnTheBench}
 use Rattle.power.proofs.Proved.{power, no-pages}
@@ -34,8 +35,8 @@ unfolding erased marked magic page pages pageCount magicArea swapMarks swapTable
 on-the-bench =
     record {
       ready = ready;
-      swaps = refl;
-      reverts = refl;
+      swaps = swapped-sheet;
+      reverts = reverted-sheet;
       rests = refl;
       power = power (sizes 16) (fresh 15) ready;
       marked = marked-none;
