@@ -2,7 +2,8 @@
 //!
 //! 512 KiB active, 4 KiB pages, chunks of 256, a 4 KiB state area in 4-byte words. The original runs twice:
 //! over the crate's own test flash with the write altered, which is what the ratio is asked against, and over
-//! the leaner flash of the comparison.
+//! the leaner flash of the comparison. Then a full swap beside the plain fills and copies of the same bytes, and
+//! the time per page as the pages grow in number.
 
 use std::hint::black_box;
 use std::time::{Duration, Instant};
@@ -223,6 +224,72 @@ fn measure(name: &str, flash: &mut CrateFlash, start: &Bench, task: impl Task) {
     );
 }
 
+/// The bytes that a full swap moves, with nothing but fills and copies.
+fn plain_swap(bench: &mut Bench, page: usize) {
+    for k in (0..bench.active.len() / page).rev() {
+        let (from, to) = (k * page, (k + 1) * page);
+        bench.dfu[to..to + page].fill(0xFF);
+        black_box(&mut bench.dfu[to..to + page]).copy_from_slice(&bench.active[from..to]);
+        bench.active[from..to].fill(0xFF);
+        black_box(&mut bench.active[from..to]).copy_from_slice(&bench.dfu[from..to]);
+    }
+}
+
+/// A full swap of the library beside the plain one, by turns.
+fn measure_plain(fresh: &Bench) {
+    let mut times = [Vec::new(), Vec::new()];
+    for run in 0..RUNS + 2 {
+        let (mut plain, mut bench) = (fresh.clone(), fresh.clone());
+        let first = timed(|| plain_swap(black_box(&mut plain), PAGE));
+        let second = timed(|| Boot.library(&mut bench));
+        assert!(plain.active == bench.active && plain.dfu == bench.dfu, "the plain swap leaves other images");
+        if run >= 2 {
+            times[0].push(first);
+            times[1].push(second);
+        }
+    }
+    let [plain, library] = times.map(median);
+    println!(
+        "\nfull swap, fills and copies alone {plain:.1}, library {library:.1}, ratio {:.3}",
+        library / plain
+    );
+}
+
+/// A full swap of n pages of 512 bytes, with words of ws bytes: microseconds per page.
+fn per_page(random: &mut Random, n: usize, ws: usize) -> f64 {
+    let page = 512;
+    let state = (4 * n + 4) * ws;
+    let geometry = Geometry { ea: 512, wa: 4, ed: 512, wd: 4, es: state as u32, ws: ws as u32, b: 256 };
+    let mut start = Bench {
+        active: random.bytes(n * page),
+        dfu: random.bytes((n + 1) * page),
+        state: vec![0xFF; state],
+        out: Vec::new(),
+        last: NO_SECTOR,
+    };
+    start.state[..ws].fill(0xF0);
+    let call = Call { kind: Kind::PrepareBoot, geometry, budget: u32::MAX, offset: 0, data: &[] };
+    let times = (0..RUNS).map(|_| {
+        let mut bench = start.clone();
+        let time = timed(|| {
+            black_box(Library.answer(&call, bench.lend()));
+        });
+        assert_eq!(bench.active, start.dfu[..n * page], "{n} pages are not swapped");
+        time
+    });
+    median(times.collect()) / n as f64
+}
+
+fn measure_growth(random: &mut Random) {
+    println!(
+        "\nfull swap, microseconds per page of 512 bytes (the progress is read from the first mark before each step)"
+    );
+    println!("{:<10} {:>14} {:>14}", "pages", "1-byte words", "4-byte words");
+    for n in [8, 32, 128, 512, 1024] {
+        println!("{n:<10} {:>14.3} {:>14.3}", per_page(random, n, 1), per_page(random, n, 4));
+    }
+}
+
 fn main() {
     let mut random = Random::new(1);
     let mut empty = Bench {
@@ -263,4 +330,6 @@ fn main() {
         let name = format!("write_firmware, 512 KiB by {piece}");
         measure(&name, &mut flash, &empty, Write { image: &image, piece });
     }
+    measure_plain(&fresh);
+    measure_growth(&mut random);
 }
