@@ -144,3 +144,9 @@ memory-again k z n offset bytes f = go (memory-one k z (sectorOf n) offset bytes
     go : {m : Sector} → Remembers mostLength (sectorOf n) m → sectorOf (lastNumber m) ≡ m
     go same = ap sectorOf (last-sector n)
     go (other {s} h) = rw (ne-eqb s 4294967295 (λ q. omega (arith, h, q)))
+
+-- a refusal leaves the caller's number as it came
+pub memory-refused : (k : ℕ) (z : Sizes) (n offset : ℕ) (bytes : List ℕ) (f : Flash)
+    → (writeFirmware z (sectorOf n) offset bytes f .refusal ≡ 0 → ⊥) → lastNumber (memory k z (sectorOf n) offset bytes f) ≡ n
+unfolding memory pick
+memory-refused k z n offset bytes f h = rw (ne-eqb _ _ h) (last-sector n)
