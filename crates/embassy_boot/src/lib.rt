@@ -16,7 +16,7 @@ ghost use Rattle.firmware_updater.specs.Updated.{lastOf};
 ghost use Rattle.embassy_boot.specs.Packed.{stateNumber, joined, packed, sectorOf, lastNumber};
 ghost use Rattle.embassy_boot.specs.Told.{geometry, sizes, Told, ToldRead, ToldWrite};
 use boot_loader::BootLoader;
-use firmware_updater::BlockingFirmwareState;
+use firmware_state::BlockingFirmwareState;
 use firmware_updater::BlockingFirmwareUpdater;
 use geometry::Geometry;
 use geometry::Sizes;

@@ -44,11 +44,6 @@ use Rattle.firmware_updater.specs.Updated.{lastOf, remembering, WroteFir
 
 -- ---- rows 5 and 6
 
--- what verify_booted answers in each state
-pub booted-is : (ws : ℕ) (st : List ℕ) (s t : State) → s ≡ readState ws st → s ≡ t → not (isSwap t) ≡ not (pending ws st)
-unfolding pending
-booted-is ws st s t e o = ap (λ (x : State). not (isSwap x)) (sym o ∙ e)
-
 pub past-short : (ld offset n : ℕ) → ld < n → true ≡ pastEnd ld offset n
 unfolding pastEnd
 past-short ld offset n h = sym (lt-ltb ld (offset + n) (omega arith))
@@ -133,40 +128,6 @@ module _ (z : Sizes) (offset : ℕ) (out d s : List ℕ) (v : Verdict)
   read-done xs o x =
       let p = verdict-admitted v _ e o in
       (did-idle (readDfu z offset (length out) (flash [] d s)) 0 (flash [] d s) p refl refl .answer, rw (eq-eqb _ _ p) x)
-
--- ---- a magic
-
-module _ (es ws m k : ℕ) (st : List ℕ) where
-  pub magic-there : (l : Budget) → throughout m (word ws 0 st) ≡ true → InState (l .0) (setMagicOps es ws m st) st st (On l)
-  unfolding setMagicOps pick run
-  magic-there l e a d = rw e
-
-  module _ (n : throughout m (word ws 0 st) ≡ false) where
-    pub magic-renew : (st₁ : List ℕ) (r : Flow) → valid ws st ≡ false → Renewed k ws m st st₁ r → InState k (setMagicOps es ws m st) st st₁ r
-    unfolding setMagicOps pick
-    magic-renew st₁ r v w a d = rw (n, v) (w es a d)
-
-    module _ (v : valid ws st ≡ true) (st₁ : List ℕ) (r : Flow) (i : Invalidated k ws st st₁ r) where
-      pub magic-cut : r ≡ Cut → InState k (setMagicOps es ws m st) st st₁ Cut
-      unfolding setMagicOps pick
-      magic-cut o a d = rw (n, v) (then-cut k (invalidateOp ws ∷ []) _ _ _ r (i a d) o)
-
-      pub magic-on : (l : Budget) (st₂ : List ℕ) (q : Flow) → r ≡ On l → length st₁ ≡ length st → Renewed (l .0) ws m st₁ st₂ q
-          → InState k (setMagicOps es ws m st) st st₂ q
-      unfolding setMagicOps pick
-      magic-on l st₂ q o z w a d = rw (n, v) (then-on k (invalidateOp ws ∷ []) _ _ _ r (i a d) l o ∙ (rw z at (w es a d)))
-
--- what a call that marks leaves, from what the setting of the magic did
-module _ (c : Call) (k : ℕ) (st st₁ a d : List ℕ) (ops : List Op) (r : Flow) (v : Verdict) (e : verdict v ≡ c .refusal) (o : v ≡ verdicts.Admitted)
-    (s : c .state ≡ none) (x : c .ops ≡ ops) (w : InState k ops st st₁ r) where
-  ran-ops : Ran k (c .ops) (flash a d st) (flash a d st₁) r
-  ran-ops = rw x (ran _ _ _ _ _ (w a d))
-
-  pub mark-cut : r ≡ Cut → Did c k (flash a d st) (flash a d st₁) (answers.Cut k)
-  mark-cut p = did-cut c k (flash a d st) (verdict-admitted v _ e o) (flash a d st₁) r ran-ops p
-
-  pub mark-done : (l : Budget) → r ≡ On l → Did c k (flash a d st) (flash a d st₁) (answers.Done (k - l .0))
-  mark-done l p = did-done c k (flash a d st) (verdict-admitted v _ e o) (flash a d st₁) r ran-ops l p s
 
 -- ---- write_firmware and prepare_update
 

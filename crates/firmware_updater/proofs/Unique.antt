@@ -1,37 +1,25 @@
--- Any two results that a contract of the firmware state or the updater allows for one input are equal: answer, areas, output
+-- Any two results that a contract of the updater allows for one input are equal: answer, areas, output
 -- buffer and record. The lent calls have the same relations, so this is their theorem too. Assumes nothing.
 use mathlib.Core.Path.{_≡_, _∙_, sym, ap}
 use mathlib.Core.List.{List, []}
 use Prim.Native.Nat.{ℕ}
 use lib.ListN.{length}
-use Rattle.state.specs.declared.State.{State}
 use Rattle.geometry.specs.declared.Sizes.{Sizes}
 use Rattle.mem_flash.specs.Flash.{Flash}
 use Rattle.mem_flash.specs.Run.{flash}
 use Rattle.rules.specs.declared.Answer.{Answer}
 use Rattle.rules.specs.Calls.{reported, report, Did}
-use Rattle.rules.specs.Boot.{getState}
-use Rattle.rules.specs.FirmwareState.{mark}
 use Rattle.rules.specs.FirmwareUpdater.{updaterGetState, updaterMarkUpdated, updaterMarkDfu, updaterMarkBooted, readDfu, readOut}
 use Rattle.rules.proofs.Unique.{unique, answer-unique}
 use Rattle.firmware_updater.specs.declared.BlockingFirmwareUpdater.{BlockingFirmwareUpdater}
 use Rattle.firmware_updater.specs.Updated.{WroteFirmware, PreparedUpdate}
 
--- get_state of the firmware state and of the updater
-pub get-state-unique : (es ws : ℕ) (st : List ℕ) (q r : Answer) → reported q ≡ report (getState es ws st) 0
-    → reported r ≡ report (getState es ws st) 0 → q ≡ r
-get-state-unique es ws st q r d e = answer-unique q r (d ∙ sym e)
-
+-- get_state
 pub updater-get-state-unique : (z : Sizes) (f : Flash) (q r : Answer) → reported q ≡ report (updaterGetState z f) 0
     → reported r ≡ report (updaterGetState z f) 0 → q ≡ r
 updater-get-state-unique z f q r d e = answer-unique q r (d ∙ sym e)
 
--- the three marks of the firmware state
-pub mark-unique : (s : State) (es ws : ℕ) (st : List ℕ) (k : ℕ) (f f₁ f₂ : Flash) (q r : Answer) → Did (mark s es ws st) k f f₁ q
-    → Did (mark s es ws st) k f f₂ r → (f₁ ≡ f₂) × (q ≡ r)
-mark-unique s es ws st k f f₁ f₂ q r d e = unique (mark s es ws st) k f f₁ f₂ q r d e
-
--- and of the updater
+-- the three marks
 module _ (z : Sizes) (k : ℕ) (f f₁ f₂ : Flash) (q r : Answer) where
   pub mark-updated-unique : Did (updaterMarkUpdated z f) k f f₁ q → Did (updaterMarkUpdated z f) k f f₂ r → (f₁ ≡ f₂) × (q ≡ r)
   mark-updated-unique d e = unique (updaterMarkUpdated z f) k f f₁ f₂ q r d e

@@ -1,4 +1,4 @@
-// The firmware updater and the firmware state: firmware_updater/blocking.rs. The areas are lent to each call, the sizes stand
+// The firmware updater: firmware_updater/blocking.rs, whose firmware state is the crate of that name. The areas are lent to each call, the sizes stand
 // by value in the records, and a budget of operations stands for the power supply.
 ghost use mathlib.Core.Path.{_≡_};
 ghost use mathlib.Core.Bool.{Bool, true, false, not};
@@ -22,6 +22,7 @@ mod lent;
 mod pieces;
 mod range;
 
+use firmware_state::BlockingFirmwareState;
 use geometry::Offset;
 use geometry::Refusal;
 use geometry::Sizes;
@@ -182,10 +183,7 @@ impl BlockingFirmwareUpdater {
     fn state(self) -> BlockingFirmwareState
         ensures { λ r. ⌜ (r .es ≡ self .sizes .es) × (r .ws ≡ self .sizes .ws) ⌝ }
     {
-        BlockingFirmwareState {
-            es: self.sizes.es,
-            ws: self.sizes.ws,
-        }
+        BlockingFirmwareState::new(self.sizes.es, self.sizes.ws)
     }
 
     // Rows 1 to 5 of the table.
@@ -217,97 +215,5 @@ impl BlockingFirmwareUpdater {
             return Verdict::Refused(Refusal::Range);
         }
         Verdict::Admitted
-    }
-}
-
-// The state area as the application sees it.
-pub struct BlockingFirmwareState {
-    pub es: u32,
-    pub ws: u32,
-}
-
-impl BlockingFirmwareState {
-    pub fn new(es: u32, ws: u32) -> Self
-        ensures { λ r. ⌜ (r .es ≡ es) × (r .ws ≡ ws) ⌝ }
-    {
-        BlockingFirmwareState { es, ws }
-    }
-
-    // No swap is pending, so the running firmware is one to go back to.
-    fn verify_booted(self, state: &[u8]) -> bool
-        ensures { λ r. ⌜ r ≡ not (pending (self .ws) (now (state .entry))) ⌝ }
-    {
-        let found = state_area::read(state, self.ws as usize);
-        match found {
-            State::Swap => false,
-            State::Boot => true,
-            State::Revert => true,
-            State::DfuDetach => true,
-        }
-    }
-
-    pub fn get_state(self, state: &[u8]) -> Answer
-        ensures { λ r. ⌜ reported r ≡ report (getState (self .es) (self .ws) (now (state .entry))) 0 ⌝ }
-    {
-        let judged = geometry::state_verdict(self.es, self.ws, state.len());
-        if let Verdict::Refused(why) = judged {
-            return Answer::Refused(why);
-        }
-        Answer::Found(state_area::read(state, self.ws as usize), 0)
-    }
-
-    // The next boot swaps the images.
-    pub fn mark_updated(self, state: &mut [u8], budget: u32) -> Answer
-        ensures { λ r. ⌜ Did (mark State.Swap (self .es) (self .ws) (now (state .entry))) budget (flash [] [] (now (state .entry))) (flash [] [] (now (state .exit))) r ⌝ }
-    {
-        let judged = geometry::state_verdict(self.es, self.ws, state.len());
-        self.mark(state, State::Swap, judged, budget)
-    }
-
-    // The next boot starts the USB update.
-    pub fn mark_dfu(self, state: &mut [u8], budget: u32) -> Answer
-        ensures { λ r. ⌜ Did (mark State.DfuDetach (self .es) (self .ws) (now (state .entry))) budget (flash [] [] (now (state .entry))) (flash [] [] (now (state .exit))) r ⌝ }
-    {
-        let judged = geometry::state_verdict(self.es, self.ws, state.len());
-        self.mark(state, State::DfuDetach, judged, budget)
-    }
-
-    // The new firmware is confirmed: the next boot does not undo the swap.
-    pub fn mark_booted(self, state: &mut [u8], budget: u32) -> Answer
-        ensures { λ r. ⌜ Did (mark State.Boot (self .es) (self .ws) (now (state .entry))) budget (flash [] [] (now (state .entry))) (flash [] [] (now (state .exit))) r ⌝ }
-    {
-        let judged = geometry::state_verdict(self.es, self.ws, state.len());
-        self.mark(state, State::Boot, judged, budget)
-    }
-
-    // What the six calls that mark share: the refusal as it was judged, else the magic.
-    fn mark(self, state: &mut [u8], s: State, judged: Verdict, budget: u32) -> Answer
-        ensures { λ r. ⌜ ((c : Call) (es : ℕ) (a d : List ℕ) → verdict judged ≡ c .refusal → c .state ≡ none → c .ops ≡ setMagicOps es (self .ws) (magic s) (now (state .entry))
-            → Did c budget (flash a d (now (state .entry))) (flash a d (now (state .exit))) r) ⌝ }
-    {
-        if let Verdict::Refused(why) = judged {
-            return Answer::Refused(why);
-        }
-        let Flow::On(rest) = self.set_magic(state, s.magic(), Budget(budget)) else {
-            return Answer::Cut(budget);
-        };
-        Answer::Done(budget - rest.0)
-    }
-
-    // The magic and an erased area, by way of an invalid progress: a cut on the way leaves no progress that counts.
-    fn set_magic(self, state: &mut [u8], magic: u8, left: Budget) -> Flow
-        ensures { λ r. ⌜ ((es : ℕ) → InState (left .0) (setMagicOps es (self .ws) magic (now (state .entry))) (now (state .entry)) (now (state .exit)) r) ⌝ }
-    {
-        let ws = self.ws as usize;
-        if state_area::magic_is(state, ws, magic) {
-            return Flow::On(left);
-        }
-        if state_area::is_valid(state, ws) {
-            let Flow::On(rest) = state_area::invalidate(state, ws, left) else {
-                return Flow::Cut;
-            };
-            return state_area::renew(state, ws, magic, rest);
-        }
-        state_area::renew(state, ws, magic, left)
     }
 }

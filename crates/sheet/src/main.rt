@@ -1,7 +1,7 @@
 // The bench sheet, run through the code: each case is printed with its answer and areas, and held to what the sheet says.
 // Answers read as document 01 has them: the number, the state or a dash, the operations.
 use boot_loader::BootLoader;
-use firmware_updater::BlockingFirmwareState;
+use firmware_state::BlockingFirmwareState;
 use firmware_updater::BlockingFirmwareUpdater;
 use geometry::Geometry;
 use geometry::Sizes;

@@ -1,7 +1,7 @@
 // The sheet's lines of the firmware state and the updater.
 use crate::show;
 use crate::show::Expected;
-use firmware_updater::BlockingFirmwareState;
+use firmware_state::BlockingFirmwareState;
 use firmware_updater::BlockingFirmwareUpdater;
 use firmware_updater::Written;
 use geometry::Sizes;

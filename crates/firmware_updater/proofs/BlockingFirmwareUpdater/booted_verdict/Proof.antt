@@ -12,7 +12,7 @@ use Rattle.firmware_updater.proofs.BlockingFirmwareUpdater.booted_verdi
 use Rattle.firmware_updater.proofs.BlockingFirmwareUpdater.booted_verdict.Tie as tie
 use Rattle.firmware_updater.proofs.BlockingFirmwareUpdater.booted_verdict.Reads as reads
 use Rattle.firmware_updater.proofs.BlockingFirmwareUpdater.booted_verdict.Lts as lts
-use Rattle.firmware_updater.proofs.BlockingFirmwareState.verify_booted.Reads as verify-booted-reads
+use Rattle.firmware_state.proofs.BlockingFirmwareState.verify_booted.Reads as verify-booted-reads
 use Rattle.firmware_updater.proofs.BlockingFirmwareUpdater.state.Reads as state-reads
 use Rattle.geometry.proofs.updater_verdict.Reads as updater-verdict-reads
 

@@ -10,7 +10,7 @@ use Rattle.firmware_updater.proofs.BlockingFirmwareUpdater.mark_dfu.Sta
 use Rattle.firmware_updater.proofs.BlockingFirmwareUpdater.mark_dfu.Tie as tie
 use Rattle.firmware_updater.proofs.BlockingFirmwareUpdater.mark_dfu.Reads as reads
 use Rattle.firmware_updater.proofs.BlockingFirmwareUpdater.mark_dfu.Lts as lts
-use Rattle.firmware_updater.proofs.BlockingFirmwareState.mark.Reads as mark-reads
+use Rattle.firmware_state.proofs.BlockingFirmwareState.mark.Reads as mark-reads
 use Rattle.firmware_updater.proofs.BlockingFirmwareUpdater.booted_verdict.Reads as booted-verdict-reads
 use Rattle.firmware_updater.proofs.BlockingFirmwareUpdater.state.Reads as state-reads
 

@@ -12,7 +12,7 @@ use Rattle.firmware_updater.proofs.BlockingFirmwareUpdater.mark_updated
 use Rattle.firmware_updater.proofs.BlockingFirmwareUpdater.mark_updated.Tie as tie
 use Rattle.firmware_updater.proofs.BlockingFirmwareUpdater.mark_updated.Reads as reads
 use Rattle.firmware_updater.proofs.BlockingFirmwareUpdater.mark_updated.Lts as lts
-use Rattle.firmware_updater.proofs.BlockingFirmwareState.mark.Reads as mark-reads
+use Rattle.firmware_state.proofs.BlockingFirmwareState.mark.Reads as mark-reads
 use Rattle.firmware_updater.proofs.BlockingFirmwareUpdater.state.Reads as state-reads
 use Rattle.geometry.proofs.updater_verdict.Reads as updater-verdict-reads
 

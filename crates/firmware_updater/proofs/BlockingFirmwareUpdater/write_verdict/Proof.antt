@@ -11,7 +11,7 @@ use Rattle.firmware_updater.proofs.BlockingFirmwareUpdater.write_verdic
 use Rattle.firmware_updater.proofs.BlockingFirmwareUpdater.write_verdict.Tie as tie
 use Rattle.firmware_updater.proofs.BlockingFirmwareUpdater.write_verdict.Reads as reads
 use Rattle.firmware_updater.proofs.BlockingFirmwareUpdater.write_verdict.Lts as lts
-use Rattle.firmware_updater.proofs.BlockingFirmwareState.verify_booted.Reads as verify-booted-reads
+use Rattle.firmware_state.proofs.BlockingFirmwareState.verify_booted.Reads as verify-booted-reads
 use Rattle.firmware_updater.proofs.BlockingFirmwareUpdater.state.Reads as state-reads
 use Rattle.firmware_updater.proofs.range.bad_range.Reads as bad-range-reads
 use Rattle.geometry.proofs.updater_verdict.Reads as updater-verdict-reads

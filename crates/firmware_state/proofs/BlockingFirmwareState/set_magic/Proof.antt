@@ -1,10 +1,10 @@
 use mathlib.Core.Path.{sym, _∙_}
-use Rattle.firmware_updater.proofs.Answers.{magic-there, magic-renew, magic-cut, magic-on}
+use Rattle.firmware_state.proofs.Answers.{magic-there, magic-renew, magic-cut, magic-on}
 use borrow.Author.Needs.{needs}
-use Rattle.firmware_updater.proofs.BlockingFirmwareState.set_magic.Statement.{statement}
-use Rattle.firmware_updater.proofs.BlockingFirmwareState.set_magic.Tie as tie
-use Rattle.firmware_updater.proofs.BlockingFirmwareState.set_magic.Reads as reads
-use Rattle.firmware_updater.proofs.BlockingFirmwareState.set_magic.Lts as lts
+use Rattle.firmware_state.proofs.BlockingFirmwareState.set_magic.Statement.{statement}
+use Rattle.firmware_state.proofs.BlockingFirmwareState.set_magic.Tie as tie
+use Rattle.firmware_state.proofs.BlockingFirmwareState.set_magic.Reads as reads
+use Rattle.firmware_state.proofs.BlockingFirmwareState.set_magic.Lts as lts
 use Rattle.state_area.proofs.invalidate.Reads as invalidate-reads
 use Rattle.state_area.proofs.is_valid.Reads as is-valid-reads
 use Rattle.state_area.proofs.magic_is.Reads as magic-is-reads

@@ -1,12 +1,12 @@
 use Rattle.rules.specs.FirmwareUpdater.{isSwap}
-use Rattle.firmware_updater.proofs.Answers.{booted-is}
+use Rattle.firmware_state.proofs.Answers.{booted-is}
 use borrow.Author.Needs.{needs}
-use Rattle.firmware_updater.proofs.BlockingFirmwareState.verify_booted.Statement.{
+use Rattle.firmware_state.proofs.BlockingFirmwareState.verify_booted.Statement.{
   statement,
 }
-use Rattle.firmware_updater.proofs.BlockingFirmwareState.verify_booted.Tie as tie
-use Rattle.firmware_updater.proofs.BlockingFirmwareState.verify_booted.Reads as reads
-use Rattle.firmware_updater.proofs.BlockingFirmwareState.verify_booted.Lts as lts
+use Rattle.firmware_state.proofs.BlockingFirmwareState.verify_booted.Tie as tie
+use Rattle.firmware_state.proofs.BlockingFirmwareState.verify_booted.Reads as reads
+use Rattle.firmware_state.proofs.BlockingFirmwareState.verify_booted.Lts as lts
 use Rattle.state_area.proofs.read.Reads as read-reads
 
 -- src/lib.rt:231:45

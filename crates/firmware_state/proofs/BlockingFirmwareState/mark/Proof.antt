@@ -3,13 +3,13 @@ use mathlib.Core.List.{[]}
 use Rattle.mem_flash.proofs.Runs.{ran}
 use Rattle.rules.specs.FirmwareState.{setMagicOps}
 use Rattle.rules.proofs.Did.{did-refused, on-low}
-use Rattle.firmware_updater.proofs.Answers.{mark-cut, mark-done}
+use Rattle.firmware_state.proofs.Answers.{mark-cut, mark-done}
 use borrow.Author.Needs.{needs}
-use Rattle.firmware_updater.proofs.BlockingFirmwareState.mark.Statement.{statement}
-use Rattle.firmware_updater.proofs.BlockingFirmwareState.mark.Tie as tie
-use Rattle.firmware_updater.proofs.BlockingFirmwareState.mark.Reads as reads
-use Rattle.firmware_updater.proofs.BlockingFirmwareState.mark.Lts as lts
-use Rattle.firmware_updater.proofs.BlockingFirmwareState.set_magic.Reads as set-magic-reads
+use Rattle.firmware_state.proofs.BlockingFirmwareState.mark.Statement.{statement}
+use Rattle.firmware_state.proofs.BlockingFirmwareState.mark.Tie as tie
+use Rattle.firmware_state.proofs.BlockingFirmwareState.mark.Reads as reads
+use Rattle.firmware_state.proofs.BlockingFirmwareState.mark.Lts as lts
+use Rattle.firmware_state.proofs.BlockingFirmwareState.set_magic.Reads as set-magic-reads
 use Rattle.state.proofs.State.magic.Reads as magic-reads
 
 -- src/lib.rt:279:33
