@@ -120,21 +120,7 @@ impl BootLoader {
         requires { ⌜ (0 < self .geometry .ws) × (3 * self .geometry .ws ≤ length (now state)) ⌝ }
         ensures { λ r. ⌜ r ≡ progress (self .geometry .ws) (now (state .entry)) ⌝ }
     {
-        let ws = self.geometry.ws as usize;
-        let max_index = state.len() / ws - 3;
-        if !state_area::is_valid(state, ws) {
-            return max_index;
-        }
-        let mut index = 0;
-        while index < max_index {
-            let at = word_offset(Word(2 + index), ws).0;
-            let end = at + ws;
-            if state::word::any_is(&state[at..end], State::ERASE_VALUE) {
-                return index;
-            }
-            index += 1;
-        }
-        max_index
+        state_area::progress(state, self.geometry.ws as usize)
     }
 
     // Marks a step as done.

@@ -1,2 +1,4 @@
 pub mod Words
 pub mod Changes
+pub mod Marks
+pub mod Places

@@ -1,14 +1,18 @@
 // What the boot loader and the firmware state both do with the state area. The Rust writes these lines in both files.
 // A word that an area does not have whole is what there is of it, so nothing is asked of the caller.
 ghost use mathlib.Core.Path.{_≡_};
-ghost use Prim.Native.Nat.{min};
+ghost use Prim.Native.Nat.{_-_, _*_, _≤_, _<_, min};
+ghost use lib.ListN.{length};
 ghost use Rattle.state.specs.Magic.{throughout};
+ghost use Rattle.geometry.specs.Geometry.{words};
 ghost use Rattle.state_area.specs.Area.{Invalidated, Renewed};
-ghost use Rattle.rules.specs.StateArea.{word, readState, valid};
+ghost use Rattle.rules.specs.StateArea.{word, readState, valid, mostMarks, firstOpen, progress};
 use geometry::Offset;
 use mem_flash::Budget;
 use mem_flash::Flow;
 use state::State;
+
+mod search;
 
 fn least(a: usize, b: usize) -> usize
     ensures { λ r. ⌜ r ≡ min a b ⌝ }
@@ -40,6 +44,49 @@ pub fn is_valid(state: &[u8], ws: usize) -> bool
     let rest = &state[start..];
     let end = least(ws, rest.len());
     state::word::all_are(&rest[..end], State::ERASE_VALUE)
+}
+
+// How many marks are read: three fewer than there are words.
+pub fn most_marks(n: usize, ws: usize) -> usize
+    ensures { λ r. ⌜ r ≡ words ws n - 3 ⌝ }
+{
+    if ws == 0 {
+        return 0;
+    }
+    let t = n / ws;
+    t - least(t, 3)
+}
+
+// The first open mark among those that are read, or how many these are. A mark is open while it holds an erased byte, so the first
+// erased byte of them all, wherever in its word it stands, is in the first open mark: one search serves words of every size.
+fn first_open(state: &[u8], ws: usize) -> usize
+    requires { ⌜ (0 < ws) × (4 * ws ≤ length (now state)) ⌝ }
+    ensures { λ r. ⌜ r ≡ firstOpen ws (now (state .entry)) (mostMarks ws (now (state .entry))) 0 ⌝ }
+{
+    let start = 2 * ws;
+    // Where nothing is done yet there is nothing to search.
+    if state[start] == State::ERASE_VALUE {
+        return 0;
+    }
+    let end = start + most_marks(state.len(), ws) * ws;
+    search::first(&state[start..end], State::ERASE_VALUE) / ws
+}
+
+// The first step that is not done, as the marks say it; where they do not count, as many as are read.
+pub fn progress(state: &[u8], ws: usize) -> usize
+    ensures { λ r. ⌜ r ≡ progress ws (now (state .entry)) ⌝ }
+{
+    if ws == 0 {
+        return 0;
+    }
+    // Fewer than four words have no mark that is read.
+    if state.len() / 4 < ws {
+        return 0;
+    }
+    if !is_valid(state, ws) {
+        return most_marks(state.len(), ws);
+    }
+    first_open(state, ws)
 }
 
 // Makes the progress invalid: one operation.
