@@ -6,8 +6,10 @@ ghost use lib.ListN.{length, getD};
 ghost use Rattle.state.specs.Magic.{holds};
 ghost use Rattle.state_area.specs.First.{Lacks, First};
 
-// So many bytes are looked at at once.
-const BLOCK: usize = 64;
+// So many bytes are looked at at once: wide blocks while there is nothing in them, then narrow ones in the wide one that is left.
+const WIDE: usize = 64;
+
+const NARROW: usize = 16;
 
 // Whether some byte of a block is `value`. Found or not, it goes on to the end, so that the bytes can be compared side by side.
 fn block_has(block: &[u8], value: u8) -> bool
@@ -22,13 +24,14 @@ fn block_has(block: &[u8], value: u8) -> bool
     has
 }
 
-// The whole blocks in front that do not hold `value`, in bytes.
-fn clear_blocks(bytes: &[u8], value: u8) -> usize
+// Goes on from a place by whole blocks that do not hold `value`.
+fn clear_blocks(bytes: &[u8], from: usize, block: usize, value: u8) -> usize
+    requires { ⌜ (0 < block) × (from ≤ length (now bytes)) × Lacks value from (now bytes) ⌝ }
     ensures { λ r. ⌜ (r ≤ length (now (bytes .entry))) × Lacks value r (now (bytes .entry)) ⌝ }
 {
-    let mut at = 0;
-    while BLOCK <= bytes.len() - at {
-        let end = at + BLOCK;
+    let mut at = from;
+    while block <= bytes.len() - at {
+        let end = at + block;
         if block_has(&bytes[at..end], value) {
             return at;
         }
@@ -41,7 +44,8 @@ fn clear_blocks(bytes: &[u8], value: u8) -> usize
 pub(crate) fn first(bytes: &[u8], value: u8) -> usize
     ensures { λ r. ⌜ First value (now (bytes .entry)) r ⌝ }
 {
-    let mut i = clear_blocks(bytes, value);
+    let far = clear_blocks(bytes, 0, WIDE, value);
+    let mut i = clear_blocks(bytes, far, NARROW, value);
     while i < bytes.len() {
         if bytes[i] == value {
             return i;

@@ -10,40 +10,44 @@ use Rattle.state_area.proofs.search.first.Lts as lts
 use Rattle.state_area.proofs.search.clear_blocks.Reads as clear-blocks-reads
 
 abbrev Inv-loop : tie.InvT-loop
-Inv-loop bytes value i₀ i = (i ≤ length bytes) × Lacks value i bytes
+Inv-loop bytes value far i₀ i = (i ≤ length bytes) × Lacks value i bytes
 
 abbrev μ-loop : tie.MeasureT-loop
-μ-loop bytes value i₀ i = length bytes - i
+μ-loop bytes value far i₀ i = length bytes - i
 
--- src/search.rt:43:9
+-- src/search.rt:47:9
 clear-blocks-requires : tie.Need-clear-blocks-requires Inv-loop μ-loop
 clear-blocks-requires c κs = search needs
 
--- src/search.rt:44:5
+-- src/search.rt:48:9
+clear-blocks-requires-2 : tie.Need-clear-blocks-requires-2 Inv-loop μ-loop
+clear-blocks-requires-2 c κs = search needs
+
+-- src/search.rt:49:5
 loop-holds : tie.Need-loop-holds Inv-loop μ-loop
 loop-holds c = search needs
 
--- src/search.rt:45:12
+-- src/search.rt:50:12
 shared-slice-read-if1 : tie.Need-shared-slice-read-if1 Inv-loop μ-loop
 shared-slice-read-if1 c = search needs
 
--- src/search.rt:46:13
+-- src/search.rt:51:13
 returns : tie.Need-returns Inv-loop μ-loop
 returns c = search needs
 
--- src/search.rt:48:9
+-- src/search.rt:53:9
 add-i : tie.Need-add-i Inv-loop μ-loop
 add-i c = search needs
 
--- src/search.rt:44:5
+-- src/search.rt:49:5
 loop-less : tie.Need-loop-less Inv-loop μ-loop
 loop-less c = search needs
 
--- src/search.rt:44:5
+-- src/search.rt:49:5
 loop-again : tie.Need-loop-again Inv-loop μ-loop
 loop-again c = (search needs, below-more _ _ (c .before .before .before .loop .inv .1) (c .if1 .left))
 
--- src/search.rt:40:1
+-- src/search.rt:44:1
 returns-2 : tie.Need-returns-2 Inv-loop μ-loop
 returns-2 c = search needs
 
@@ -54,6 +58,7 @@ first-spec =
     Inv-loop
     μ-loop
     clear-blocks-requires
+    clear-blocks-requires-2
     loop-holds
     shared-slice-read-if1
     returns
