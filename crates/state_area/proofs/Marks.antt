@@ -2,14 +2,14 @@
 use mathlib.Core.Path.{_≡_, refl, ap, _∙_, sym}
 use mathlib.Core.Bool.{Bool, true, false}
 use mathlib.Core.List.{List}
-use Prim.Native.Nat.{ℕ, zero, suc, _+_, _-_, _*_, _/_, _%_, _≤_, _<_, min}
+use Prim.Native.Nat.{ℕ, zero, suc, _+_, _-_, _*_, _/_, _%_, _≤_, _<_}
 use native.Mathlib.Nat.{sub-zero, zero-div, div-zero, div-mul-le-self, mul-le-mul-right, le-div-iff-mul-le, div-lt-iff-lt-mul, div-add-mod', mod-lt}
 use native.Mathlib.Decide.{decLt}
 use native.Mathlib.Omega.{arith}
 use lib.ListN.{length, getD, take, drop, length-take, length-drop}
 use lib.Seq.{getD-take, getD-drop}
 use Rattle.state.specs.Choice.{pick}
-use Rattle.state.specs.Magic.{erased, holds}
+use Rattle.state.specs.Magic.{erased}
 use Rattle.geometry.specs.Geometry.{words}
 use Rattle.rules.specs.StateArea.{word, valid, markOpen, mostMarks, firstOpen, progress}
 use Rattle.rules.proofs.StateWords.{open-here, open-turn, open-end, progress-invalid, progress-valid}

@@ -1,8 +1,8 @@
 // Where a byte first stands, by whole blocks: a state area may have a million marks, and all that are done are passed over before
 // each step.
 ghost use mathlib.Core.Path.{_≡_};
-ghost use Prim.Native.Nat.{ℕ, _≤_, _<_};
-ghost use lib.ListN.{length, getD};
+ghost use Prim.Native.Nat.{_≤_, _<_};
+ghost use lib.ListN.{length};
 ghost use Rattle.state.specs.Magic.{holds};
 ghost use Rattle.state_area.specs.First.{Lacks, First};
 
