@@ -33,6 +33,37 @@ fn area(length: usize, ws: usize, first_open: usize) -> Vec<u8> {
     state
 }
 
+/// The rule of the progress, read once more: for the areas below, which have words enough or none.
+fn rule(state: &[u8], ws: usize) -> usize {
+    let most = state.len().checked_div(ws).unwrap_or(0).saturating_sub(3);
+    let open = |i: &usize| state[(2 + i) * ws..(3 + i) * ws].contains(&ERASED);
+    let valid = most > 0 && state[ws..2 * ws].iter().all(|byte| *byte == ERASED);
+    if valid { (0..most).find(open).unwrap_or(most) } else { most }
+}
+
+/// Both searches give what the rule gives, on areas with gaps, odd marks and words of every size up to 9 bytes.
+fn agree(areas: u32) {
+    let mut seed = 1u64;
+    let mut next = |bound: u64| {
+        seed = seed.wrapping_mul(6364136223846793005).wrapping_add(1442695040888963407);
+        (seed >> 33) % bound
+    };
+    for _ in 0..areas {
+        let (length, ws, rare) = (next(400) as usize, next(10) as usize, 1 + next(300));
+        let mut byte = || if next(rare) > 0 { MARKED } else { [ERASED, 0xFE, 0x7F][next(3) as usize] };
+        let mut state: Vec<u8> = (0..length).map(|_| byte()).collect();
+        if let Some(validity) = state.get_mut(ws..2 * ws)
+            && next(4) > 0
+        {
+            validity.fill(ERASED);
+        }
+        let right = rule(&state, ws);
+        assert_eq!(plain(&state, ws), right, "plain search, words of {ws}, {state:?}");
+        assert_eq!(block(&state, ws), right, "search by blocks, words of {ws}, {state:?}");
+    }
+    println!("both searches give the rule's answer on {areas} areas");
+}
+
 /// Nanoseconds per call, over enough calls to fill the clock's grain.
 fn time(search: Search, state: &[u8], ws: usize, answer: usize, calls: usize) -> f64 {
     let begin = Instant::now();
@@ -70,6 +101,7 @@ fn measure(length: usize, ws: usize, name: &str, first_open: usize) {
 }
 
 fn main() {
+    agree(200_000);
     println!("nanoseconds per call, median of {RUNS} runs");
     println!(
         "{:>9} {:>5}  {:<22} {:>12} {:>12} {:>9} {:>9}",
