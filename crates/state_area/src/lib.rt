@@ -1,4 +1,5 @@
-// What the boot loader and the firmware state both do with the state area. The Rust writes these lines in both files.
+// What the boot loader and the firmware state both do with the state area, lines that the Rust writes in both files; and the search for
+// the progress, which the loader alone asks for.
 // A word that an area does not have whole is what there is of it, so nothing is asked of the caller.
 ghost use mathlib.Core.Path.{_≡_};
 ghost use Prim.Native.Nat.{_-_, _*_, _≤_, _<_, min};
