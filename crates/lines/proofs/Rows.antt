@@ -1,0 +1,49 @@
+-- Laws of a row of numbers: a turn of `row`'s loop and each way out of it. Assumes nothing.
+use mathlib.Core.Path.{_≡_, refl, ap, sym, _∙_}
+use mathlib.Core.Bool.{false}
+use mathlib.Core.List.{List, [], _∷_, _++_}
+use mathlib.Core.Option.{none, some}
+use Prim.Native.Nat.{ℕ, suc, _+_, _-_, _≤_, _<_}
+use native.Mathlib.Numerals.{add-one}
+use native.Mathlib.Omega.{arith}
+use lib.Dec.{eqb}
+use lib.ListN.{length, take, drop, set, length-set, length-take}
+use lib.Seq.{take-suc-set}
+use Rattle.lines.specs.Text.{space, first, split, number, numbers, row}
+use Rattle.lines.specs.Lines.{rowOf}
+use Rattle.lines.proofs.Splits.{split-head, part-head, part-last, part-next}
+use Rattle.lines.proofs.Numbers.{ahead, numbers-turn, numbers-not, numbers-many, numbers-end}
+
+-- i numbers are read and stand in `out`; the rest of the line starts at `at`
+abbrev pub Read : List ℕ → List ℕ → ℕ → ℕ → Type 0
+Read line out at i = numbers (split space line) ≡ ahead (take i out) (numbers (split space (drop at line)))
+
+-- more numbers than there is room for
+pub row-many : (line out : List ℕ) (at i k : ℕ) → Read line out at i → length out ≤ i → length out ≡ k → rowOf false out ≡ row k line
+unfolding rowOf row
+row-many line out at i k h m l =
+    let n : k ≤ length (take i out) = omega (arith, length-take i out) in
+    rw (h, split-head space (drop at line)) (numbers-many k (take i out) _ _ n)
+
+module _ (line out : List ℕ) (at i k e : ℕ) (h : Read line out at i) (le : at ≤ length line)
+    (found : e ≡ at + first space (drop at line)) where
+  -- a word that is no number
+  pub row-not : none ≡ number (take (e - at) (drop at line)) → rowOf false out ≡ row k line
+  unfolding rowOf row
+  row-not w = rw (h, part-head space at e line le found) (numbers-not k (take i out) _ _ w)
+
+  module _ (n : ℕ) (w : some n ≡ number (take (e - at) (drop at line))) (room : i < length out) where
+    put : take i out ++ (n ∷ []) ≡ take (i + 1) (set out i n)
+    put = rw add-one (sym (take-suc-set out i n room))
+
+    -- the last word
+    pub row-last : e ≡ length line → length out ≡ k → rowOf (eqb (i + 1) (length (set out i n))) (set out i n) ≡ row k line
+    unfolding row
+    row-last z l =
+        let m : length (set out i n) ≡ k = length-set out i n ∙ l in
+        rw (m, h, part-last space at e line le found z, numbers-turn (take i out) _ n [] w, put)
+        (numbers-end k (i + 1) (set out i n) (omega arith) m)
+
+    -- any other
+    pub row-next : (e ≡ length line → ⊥) → Read line (set out i n) (e + 1) (i + 1)
+    row-next z = h ∙ rw (part-next space at e line le found z, numbers-turn (take i out) _ n _ w, put) refl

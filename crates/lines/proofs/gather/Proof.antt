@@ -1,0 +1,99 @@
+-- `gather`: what is held is what came before, and after it the bytes of the piece that are passed. Assumes nothing.
+use mathlib.Core.Path.{_≡_}
+use Prim.Native.Nat.{_-_}
+use native.Mathlib.Omega.{arith}
+use lib.ListN.{length}
+use borrow.Author.Needs.{needs}
+use Rattle.lines.proofs.Gathered.{Gathering, begins, ends-line, ends-piece, too-long, goes-on, still-long}
+use Rattle.lines.proofs.gather.Statement.{statement}
+use Rattle.lines.proofs.gather.Tie as tie
+use Rattle.lines.proofs.gather.Reads as reads
+use Rattle.lines.proofs.gather.Lts as lts
+
+abbrev Inv-loop : tie.InvT-loop
+Inv-loop held₀ n piece at m₀ i₀ held m i = (length held ≡ length held₀) × Gathering held₀ piece held n at m i
+
+abbrev μ-loop : tie.MeasureT-loop
+μ-loop held₀ n piece at m₀ i₀ held m i = length piece - i
+
+-- src/lib.rt:68:5
+loop-holds : tie.Need-loop-holds Inv-loop μ-loop
+loop-holds c = (search needs, begins _ _ _ _)
+
+-- src/lib.rt:69:12
+shared-slice-read-if1 : tie.Need-shared-slice-read-if1 Inv-loop μ-loop
+shared-slice-read-if1 c = search needs
+
+-- src/lib.rt:70:35
+add-t11 : tie.Need-add-t11 Inv-loop μ-loop
+add-t11 c = search needs
+
+-- src/lib.rt:70:13
+same-length : tie.Need-same-length Inv-loop μ-loop
+same-length c = search needs
+
+-- src/lib.rt:70:13
+returns : tie.Need-returns Inv-loop μ-loop
+returns c = ends-line _ _ _ _ _ _ _ (c .before .before .before .loop .inv .1) (c .before .before .loop-test .taken) (c .if1 .taken)
+
+-- src/lib.rt:73:13
+same-length-2 : tie.Need-same-length-2 Inv-loop μ-loop
+same-length-2 c = search needs
+
+-- src/lib.rt:73:13
+returns-2 : tie.Need-returns-2 Inv-loop μ-loop
+returns-2 c = too-long _ _ _ _ _ _ _ (c .before .before .before .before .loop .inv .1) (c .before .before .before .loop-test .taken) (c .before .if1 .left) (omega (arith, c .if2 .taken, c .before .before .before .before .loop .inv .0))
+
+-- src/lib.rt:75:19
+shared-slice-read-held : tie.Need-shared-slice-read-held Inv-loop μ-loop
+shared-slice-read-held c = search needs
+
+-- src/lib.rt:75:9
+slice-write-held : tie.Need-slice-write-held Inv-loop μ-loop
+slice-write-held c = search needs
+
+-- src/lib.rt:76:9
+add-m : tie.Need-add-m Inv-loop μ-loop
+add-m c = search needs
+
+-- src/lib.rt:77:9
+add-i : tie.Need-add-i Inv-loop μ-loop
+add-i c = search needs
+
+-- src/lib.rt:68:5
+loop-less : tie.Need-loop-less Inv-loop μ-loop
+loop-less c = search needs
+
+-- src/lib.rt:68:5
+loop-again : tie.Need-loop-again Inv-loop μ-loop
+loop-again c = let l = c .before .before .before .before .before .loop in let h = c .before .before .before .before .loop-test .taken in let o = c .before .before .if1 .left in (still-long _ _ _ _ _ _ _ (l .inv .1) h o (l .inv .0), goes-on _ _ _ _ _ _ _ (l .inv .1) h o (omega (arith, c .before .if2 .left, l .inv .0)))
+
+-- src/lib.rt:62:1
+same-length-3 : tie.Need-same-length-3 Inv-loop μ-loop
+same-length-3 c = search needs
+
+-- src/lib.rt:62:1
+returns-3 : tie.Need-returns-3 Inv-loop μ-loop
+returns-3 c = ends-piece _ _ _ _ _ _ _ (c .before .loop .inv .1) (c .loop-test .left)
+
+pub gather-spec : {M : Type 1} → statement M
+gather-spec =
+    tie.close
+    (tie.spec
+    Inv-loop
+    μ-loop
+    loop-holds
+    shared-slice-read-if1
+    add-t11
+    same-length
+    returns
+    same-length-2
+    returns-2
+    shared-slice-read-held
+    slice-write-held
+    add-m
+    add-i
+    loop-less
+    loop-again
+    same-length-3
+    returns-3)
