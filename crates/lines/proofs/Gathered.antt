@@ -1,5 +1,6 @@
 -- Laws of gathering a line from the pieces of the input: a turn of `gather`'s loop and each way out of it. Assumes nothing.
 use mathlib.Core.Path.{_≡_, refl, ap, sym, _∙_}
+use mathlib.Core.Bool.{Bool, true, false}
 use mathlib.Core.List.{List, [], _∷_}
 use Prim.Native.Nat.{ℕ, suc, _+_, _-_, _≤_, _<_, min}
 use native.Mathlib.Numerals.{add-one}
@@ -7,7 +8,7 @@ use native.Mathlib.Omega.{arith}
 use lib.Dec.{leb, ltb}
 use lib.ListN.{length, drop, getD, set, length-drop, length-set}
 use lib.Seq.{paste, paste-zero, paste-suc, getD-drop}
-use borrow.Author.Tests.{le-leb, lt-leb, lt-ltb, le-ltb}
+use borrow.Author.Tests.{le-leb, lt-leb, lt-ltb, le-ltb, leb-true, ltb-true}
 use Rattle.state.specs.Choice.{pick}
 use Rattle.lines.specs.declared.Taken.{Taken}
 use Rattle.lines.specs.declared.Taken.the-variants.{Line, Part, Long}
@@ -19,7 +20,7 @@ use Rattle.lines.proofs.Splits.{first-here, first-turn, first-end, firs
 pub record Gathering (before piece held : List ℕ) (n at m i : ℕ) : Type 0 where
   pub on : at ≤ i
   pub count : m ≡ n + (i - at)
-  pub room : i - at ≤ length before - n
+  pub room : m ≤ length before
   pub ends : first lineFeed (drop at piece) ≡ i - at + first lineFeed (drop i piece)
   pub bytes : held ≡ paste before n (drop at piece) (i - at)
 
@@ -27,8 +28,16 @@ pub record Gathering (before piece held : List ℕ) (n at m i : ℕ) : Type 0 wh
 abbrev pub Gathered : List ℕ → List ℕ → List ℕ → ℕ → ℕ → Taken → Type 0
 Gathered before piece held n at r = (r ≡ takenAt (length before) n piece at) × (held ≡ heldThen (length before) before n piece at)
 
-pub begins : (before piece : List ℕ) (n at : ℕ) → Gathering before piece before n at n at
-begins before piece n at =
+-- more is held than a line has
+pub over : (before piece : List ℕ) (n at : ℕ) → length before < n → Gathered before piece before n at Long
+unfolding takenAt heldThen pick
+over before piece n at h =
+    let f : length before < n + first lineFeed (drop at piece) = omega arith in
+    let q : min (first lineFeed (drop at piece)) (length before - n) ≡ 0 = omega arith in
+    (rw (lt-leb _ _ f) refl, rw q (paste-zero before n (drop at piece)))
+
+pub begins : (before piece : List ℕ) (n at : ℕ) → n ≤ length before → Gathering before piece before n at n at
+begins before piece n at h =
     let z : at - at ≡ 0 = omega arith in
     record {
       on = omega arith;
@@ -43,25 +52,25 @@ module _ (before piece held : List ℕ) (n at m i : ℕ) (g : Gathering before p
   unfolding takenAt heldThen pick
   ends-line h e =
       let f : first lineFeed (drop at piece) ≡ i - at = omega (arith, g .ends, first-here i lineFeed piece h e) in
-      let l : i - at ≤ length before - n = g .room in
+      let l : n + (i - at) ≤ length before = omega (arith, g .room, g .count) in
       let p : at + (i - at) ≡ i = omega (arith, g .on) in
-      let q : min (i - at) (length before - n) ≡ i - at = omega arith in
+      let q : min (i - at) (length before - n) ≡ i - at = omega (arith, l) in
       (rw (f, le-leb _ _ l, p, lt-ltb _ _ h, ← g .count) refl, rw (f, q) (g .bytes))
 
   pub ends-piece : length piece ≤ i → Gathered before piece held n at (Part m)
   unfolding takenAt heldThen pick
   ends-piece h =
       let f : first lineFeed (drop at piece) ≡ i - at = omega (arith, g .ends, first-end i lineFeed piece h) in
-      let l : i - at ≤ length before - n = g .room in
+      let l : n + (i - at) ≤ length before = omega (arith, g .room, g .count) in
       let p : at + (i - at) ≡ i = omega (arith, g .on) in
-      let q : min (i - at) (length before - n) ≡ i - at = omega arith in
+      let q : min (i - at) (length before - n) ≡ i - at = omega (arith, l) in
       (rw (f, le-leb _ _ l, p, le-ltb _ _ h, ← g .count) refl, rw (f, q) (g .bytes))
 
   module _ (h : i < length piece) (other : getD piece i 0 ≡ lineFeed → ⊥) where
     pub too-long : length before ≤ m → Gathered before piece held n at Long
     unfolding takenAt heldThen pick
     too-long r =
-        let f : length before - n < first lineFeed (drop at piece) =
+        let f : length before < n + first lineFeed (drop at piece) =
         omega (arith, g .ends, g .count, first-turn i lineFeed piece h other) in
         let q : min (first lineFeed (drop at piece)) (length before - n) ≡ i - at = omega (arith, g .room, g .count) in
         (rw (lt-leb _ _ f) refl, rw q (g .bytes))
@@ -86,3 +95,31 @@ module _ (before piece held : List ℕ) (n at m i : ℕ) (g : Gathering before p
 
     pub still-long : length held ≡ length before → length (set held m (getD piece i 0)) ≡ length before
     still-long l = simp length-set l
+
+-- ---- for whoever calls: a whole line fits, and the next starts further on and within the piece
+
+taken-by : (s t : Bool) (most n at k m next : ℕ) (piece : List ℕ) → leb (n + k) most ≡ s → ltb (at + k) (length piece) ≡ t
+    → pick s (pick t (Line (n + k) (at + k + 1)) (Part (n + k))) Long ≡ Line m next → (m ≤ most) × (at < next) × (next ≤ length piece)
+unfolding pick
+taken-by true true most n at k m next piece e f h =
+    let a : n + k ≡ m = cc in
+    let b : at + k + 1 ≡ next = cc in
+    omega (arith, leb-true (n + k) most e, ltb-true (at + k) (length piece) f)
+taken-by true false most n at k m next piece e f h = let z : _≡_ {A = ℕ} 0 1 = cc in omega arith
+taken-by false t most n at k m next piece e f h = let z : _≡_ {A = ℕ} 0 1 = cc in omega arith
+
+pub taken-line : (most n at m next : ℕ) (piece : List ℕ) (r : Taken) → r ≡ takenAt most n piece at → r ≡ Line m next
+    → (m ≤ most) × (at < next) × (next ≤ length piece)
+unfolding takenAt
+taken-line most n at m next piece r e h = taken-by _ _ most n at (first lineFeed (drop at piece)) m next piece refl refl (sym e ∙ h)
+
+part-by : (s t : Bool) (most n at k m : ℕ) → leb (n + k) most ≡ s
+    → pick s (pick t (Line (n + k) (at + k + 1)) (Part (n + k))) Long ≡ Part m → m ≤ most
+unfolding pick
+part-by true true most n at k m e h = let z : _≡_ {A = ℕ} 0 1 = cc in omega arith
+part-by true false most n at k m e h = let a : n + k ≡ m = cc in omega (arith, leb-true (n + k) most e)
+part-by false t most n at k m e h = let z : _≡_ {A = ℕ} 0 1 = cc in omega arith
+
+pub taken-part : (most n at m : ℕ) (piece : List ℕ) (r : Taken) → r ≡ takenAt most n piece at → r ≡ Part m → m ≤ most
+unfolding takenAt
+taken-part most n at m piece r e h = part-by _ _ most n at (first lineFeed (drop at piece)) m refl (sym e ∙ h)

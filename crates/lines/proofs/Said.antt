@@ -11,8 +11,7 @@ use lib.ListN.{length, take, drop, getD, length-drop}
 use lib.Seq.{take-all}
 use borrow.Author.Tests.{eq-eqb, eqb-true, le-leb, lt-leb}
 use Rattle.state.specs.Choice.{pick}
-use Rattle.lines.specs.declared.Command.{Command}
-use Rattle.lines.specs.declared.Command.the-variants.{Other}
+use Rattle.lines.specs.declared.CommandLine.the-variants.{Other}
 use Rattle.lines.specs.Text.{space, first, split, numbers, exactly, row, alike}
 use Rattle.lines.specs.Lines.{rowOf, short, mostLength, ordered, commandOf, commandLine}
 use Rattle.lines.proofs.Splits.{first-le, split-last, split-next}

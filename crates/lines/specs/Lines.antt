@@ -13,8 +13,9 @@ use Rattle.lines.specs.declared.SizesLine.{SizesLine}
 use Rattle.lines.specs.declared.LengthsLine.{LengthsLine}
 use Rattle.lines.specs.declared.LengthsLine.the-variants as lengths-line
 use Rattle.lines.specs.declared.SizesLine.the-variants as sizes-line
-use Rattle.lines.specs.declared.Command.{Command}
-use Rattle.lines.specs.declared.Command.the-variants as command
+use Rattle.lines.specs.declared.Command.the-variants.{Update, Booted, Boot}
+use Rattle.lines.specs.declared.CommandLine.{CommandLine}
+use Rattle.lines.specs.declared.CommandLine.the-variants as command-line
 use Rattle.lines.specs.declared.Taken.{Taken}
 use Rattle.lines.specs.declared.Taken.the-variants.{Line, Part, Long}
 use Rattle.lines.specs.Text.{lineFeed, space, first, split, numbers, exactly, row, alike}
@@ -40,7 +41,7 @@ mostBytes = 80
 -- Then it is a whole line of so many bytes, and the next starts after the line feed; or a part of one; or it has more than `most`.
 unfoldable pub takenAt : ℕ → ℕ → List ℕ → ℕ → Taken
 takenAt most n piece at =
-    pick (leb (first lineFeed (drop at piece)) (most - n))
+    pick (leb (n + first lineFeed (drop at piece)) most)
     (pick (ltb (at + first lineFeed (drop at piece)) (length piece))
     (Line (n + first lineFeed (drop at piece)) (at + first lineFeed (drop at piece) + 1))
     (Part (n + first lineFeed (drop at piece))))
@@ -110,20 +111,20 @@ abbrev pub boot : List ℕ
 boot = 98 ∷ 111 ∷ 111 ∷ 116 ∷ []
 
 -- a command by its name
-unfoldable pub named : List ℕ → ℕ → Command
+unfoldable pub named : List ℕ → ℕ → CommandLine
 named w k =
-    pick (alike w update) (command.Update k)
-    (pick (alike w booted) (command.Booted k) (pick (alike w boot) (command.Boot k) command.Other))
+    pick (alike w update) (command-line.Command (Update k))
+    (pick (alike w booted) (command-line.Command (Booted k)) (pick (alike w boot) (command-line.Command (Boot k)) command-line.Other))
 
-unfoldable pub ordered : List ℕ → Option (List ℕ) → Command
-ordered w none = command.Other
+unfoldable pub ordered : List ℕ → Option (List ℕ) → CommandLine
+ordered w none = command-line.Other
 ordered w (some ns) = named w (getD ns 0 0)
 
 -- a name, and one number
-unfoldable pub commandOf : List (List ℕ) → Command
-commandOf [] = command.Other
+unfoldable pub commandOf : List (List ℕ) → CommandLine
+commandOf [] = command-line.Other
 commandOf (w ∷ ws) = ordered w (exactly 1 (numbers ws))
 
 -- every further line
-unfoldable pub commandLine : List ℕ → Command
+unfoldable pub commandLine : List ℕ → CommandLine
 commandLine line = commandOf (split space line)

@@ -29,11 +29,16 @@ pub enum LengthsLine {
     Other,
 }
 
-// Every further line.
+// A command, with its budget.
 pub enum Command {
     Update(u32),
     Booted(u32),
     Boot(u32),
+}
+
+// Every further line.
+pub enum CommandLine {
+    Command(Command),
     Other,
 }
 
@@ -63,6 +68,9 @@ fn gather(held: &mut [u8], n: usize, piece: &[u8], at: usize) -> Taken
     ensures { λ r. ⌜ (r ≡ takenAt (length (now (held .entry))) n (now (piece .entry)) at)
         × (now (held .exit) ≡ heldThen (length (now (held .entry))) (now (held .entry)) n (now (piece .entry)) at) ⌝ }
 {
+    if n > held.len() {
+        return Taken::Long;
+    }
     let mut m = n;
     let mut i = at;
     while i < piece.len() {
@@ -123,32 +131,32 @@ pub fn read_lengths(line: &[u8]) -> LengthsLine
 }
 
 // A name and a number.
-pub fn read_command(line: &[u8]) -> Command
+pub fn read_command(line: &[u8]) -> CommandLine
     ensures { λ r. ⌜ r ≡ commandLine (now (line .entry)) ⌝ }
 {
     let e = number::find(line, 0, SPACE);
     if e >= line.len() {
-        return Command::Other;
+        return CommandLine::Other;
     }
     let rest = e + 1;
     let mut k = [0u32; 1];
     if !number::row(&line[rest..], &mut k) {
-        return Command::Other;
+        return CommandLine::Other;
     }
     named(&line[..e], k[0])
 }
 
-fn named(name: &[u8], k: u32) -> Command
+fn named(name: &[u8], k: u32) -> CommandLine
     ensures { λ r. ⌜ r ≡ Lines·named (now (name .entry)) k ⌝ }
 {
     if check::same(name, b"update") {
-        return Command::Update(k);
+        return CommandLine::Command(Command::Update(k));
     }
     if check::same(name, b"booted") {
-        return Command::Booted(k);
+        return CommandLine::Command(Command::Booted(k));
     }
     if check::same(name, b"boot") {
-        return Command::Boot(k);
+        return CommandLine::Command(Command::Boot(k));
     }
-    Command::Other
+    CommandLine::Other
 }

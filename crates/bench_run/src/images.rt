@@ -1,0 +1,94 @@
+// The three areas: how the images start, and what a command does.
+ghost use mathlib.Core.Path.{_≡_};
+ghost use Prim.Native.Nat.{_+_, _%_, _<_};
+ghost use Rattle.mem_flash.specs.Run.{flash};
+ghost use Rattle.bench_run.specs.Images.{Filled, Started, Obeyed};
+use crate::MOST;
+use boot_loader::BootLoader;
+use firmware_updater::BlockingFirmwareState;
+use geometry::Geometry;
+use geometry::Refusal;
+use lines::Command;
+use lines::Lengths;
+use rules::Answer;
+
+// What a page is filled with: its number from 1, with `before` pages before the area's first, modulo 256.
+fn page_byte(before: usize, page: usize) -> u8
+    ensures { λ r. ⌜ r ≡ (before + page + 1) % 256 ⌝ }
+{
+    ((before % 256 + page % 256 + 1) % 256) as u8
+}
+
+// Fills the pages of an area that stand after `before` others.
+fn fill(area: &mut [u8], size: usize, before: usize)
+    requires { ⌜ 0 < size ⌝ }
+    ensures { λ _. ⌜ Filled size before (now (area .exit)) ⌝ }
+{
+    let mut i = 0;
+    while i < area.len() {
+        area[i] = page_byte(before, i / size);
+        i += 1;
+    }
+}
+
+// DFU's pages go on counting where active's end.
+pub fn start(size: usize, la: usize, active: &mut [u8; MOST], dfu: &mut [u8; MOST])
+    requires { ⌜ 0 < size ⌝ }
+    ensures { λ _. ⌜ Started size la (now (active .exit)) (now (dfu .exit)) ⌝ }
+{
+    fill(active, size, 0);
+    fill(dfu, size, la / size);
+}
+
+pub fn obey(
+    g: Geometry,
+    l: Lengths,
+    command: Command,
+    active: &mut [u8; MOST],
+    dfu: &mut [u8; MOST],
+    state: &mut [u8; MOST],
+) -> Answer {
+    on_parts(g, l, command, active, dfu, state)
+}
+
+// The lengths are at most what is lent, since the line that gave them was read so.
+fn on_parts(
+    g: Geometry,
+    l: Lengths,
+    command: Command,
+    active: &mut [u8],
+    dfu: &mut [u8],
+    state: &mut [u8],
+) -> Answer {
+    let la = l.active;
+    let ld = l.dfu;
+    let ls = l.state;
+    if la > active.len() || ld > dfu.len() || ls > state.len() {
+        return Answer::Refused(Refusal::Limit);
+    }
+    call(
+        g,
+        command,
+        &mut active[..la],
+        &mut dfu[..ld],
+        &mut state[..ls],
+    )
+}
+
+fn call(
+    g: Geometry,
+    command: Command,
+    active: &mut [u8],
+    dfu: &mut [u8],
+    state: &mut [u8],
+) -> Answer
+    ensures { λ r. ⌜ Obeyed g command (flash (now (active .entry)) (now (dfu .entry)) (now (state .entry)))
+        (flash (now (active .exit)) (now (dfu .exit)) (now (state .exit))) r ⌝ }
+{
+    let marks = BlockingFirmwareState::new(g.es, g.ws);
+    match command {
+        Command::Update(k) => marks.mark_updated(state, k),
+        Command::Booted(k) => marks.mark_booted(state, k),
+        Command::Boot(k) => BootLoader::new(g).prepare_boot(active, dfu, state, k),
+    }
+}
