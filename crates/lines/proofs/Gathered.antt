@@ -8,7 +8,7 @@ use native.Mathlib.Omega.{arith}
 use lib.Dec.{leb, ltb}
 use lib.ListN.{length, drop, getD, set, length-drop, length-set}
 use lib.Seq.{paste, paste-zero, paste-suc, getD-drop}
-use borrow.Author.Tests.{le-leb, lt-leb, lt-ltb, le-ltb, leb-true, ltb-true}
+use borrow.Author.Tests.{le-leb, lt-leb, lt-ltb, le-ltb, leb-true, leb-false, ltb-true, ltb-false}
 use Rattle.state.specs.Choice.{pick}
 use Rattle.lines.specs.declared.Taken.{Taken}
 use Rattle.lines.specs.declared.Taken.the-variants.{Line, Part, Long}
@@ -96,30 +96,33 @@ module _ (before piece held : List ℕ) (n at m i : ℕ) (g : Gathering before p
     pub still-long : length held ≡ length before → length (set held m (getD piece i 0)) ≡ length before
     still-long l = simp length-set l
 
--- ---- for whoever calls: a whole line fits, and the next starts further on and within the piece
+-- ---- for whoever calls: what each answer tells, of k bytes up to the line feed
 
-taken-by : (s t : Bool) (most n at k m next : ℕ) (piece : List ℕ) → leb (n + k) most ≡ s → ltb (at + k) (length piece) ≡ t
-    → pick s (pick t (Line (n + k) (at + k + 1)) (Part (n + k))) Long ≡ Line m next → (m ≤ most) × (at < next) × (next ≤ length piece)
+pub data Told (most n at k len : ℕ) : Taken → Type 0 where
+  line : n + k ≤ most → at + k < len → Told most n at k len (Line (n + k) (at + k + 1))
+  part : n + k ≤ most → len ≤ at + k → Told most n at k len (Part (n + k))
+  long : most < n + k → Told most n at k len Long
+
+told-by : (s t : Bool) (most n at k len : ℕ) → leb (n + k) most ≡ s → ltb (at + k) len ≡ t
+    → Told most n at k len (pick s (pick t (Line (n + k) (at + k + 1)) (Part (n + k))) Long)
 unfolding pick
-taken-by true true most n at k m next piece e f h =
+told-by true true most n at k len e f = line (leb-true (n + k) most e) (ltb-true (at + k) len f)
+told-by true false most n at k len e f = part (leb-true (n + k) most e) (ltb-false (at + k) len f)
+told-by false t most n at k len e f = long (leb-false (n + k) most e)
+
+pub told : (most n at : ℕ) (piece : List ℕ) → Told most n at (first lineFeed (drop at piece)) (length piece) (takenAt most n piece at)
+unfolding takenAt
+told most n at piece = told-by _ _ most n at (first lineFeed (drop at piece)) (length piece) refl refl
+
+-- a whole line fits, and the next starts further on and within the piece
+line-by : (most n at k len m next : ℕ) (r : Taken) → Told most n at k len r → r ≡ Line m next → (m ≤ most) × (at < next) × (next ≤ len)
+line-by most n at k len m next r (line h l) e =
     let a : n + k ≡ m = cc in
     let b : at + k + 1 ≡ next = cc in
-    omega (arith, leb-true (n + k) most e, ltb-true (at + k) (length piece) f)
-taken-by true false most n at k m next piece e f h = let z : _≡_ {A = ℕ} 0 1 = cc in omega arith
-taken-by false t most n at k m next piece e f h = let z : _≡_ {A = ℕ} 0 1 = cc in omega arith
+    omega arith
+line-by most n at k len m next r (part h l) e = let z : _≡_ {A = ℕ} 0 1 = cc in omega arith
+line-by most n at k len m next r (long h) e = let z : _≡_ {A = ℕ} 0 1 = cc in omega arith
 
 pub taken-line : (most n at m next : ℕ) (piece : List ℕ) (r : Taken) → r ≡ takenAt most n piece at → r ≡ Line m next
     → (m ≤ most) × (at < next) × (next ≤ length piece)
-unfolding takenAt
-taken-line most n at m next piece r e h = taken-by _ _ most n at (first lineFeed (drop at piece)) m next piece refl refl (sym e ∙ h)
-
-part-by : (s t : Bool) (most n at k m : ℕ) → leb (n + k) most ≡ s
-    → pick s (pick t (Line (n + k) (at + k + 1)) (Part (n + k))) Long ≡ Part m → m ≤ most
-unfolding pick
-part-by true true most n at k m e h = let z : _≡_ {A = ℕ} 0 1 = cc in omega arith
-part-by true false most n at k m e h = let a : n + k ≡ m = cc in omega (arith, leb-true (n + k) most e)
-part-by false t most n at k m e h = let z : _≡_ {A = ℕ} 0 1 = cc in omega arith
-
-pub taken-part : (most n at m : ℕ) (piece : List ℕ) (r : Taken) → r ≡ takenAt most n piece at → r ≡ Part m → m ≤ most
-unfolding takenAt
-taken-part most n at m piece r e h = part-by _ _ most n at (first lineFeed (drop at piece)) m refl (sym e ∙ h)
+taken-line most n at m next piece r e h = line-by most n at (first lineFeed (drop at piece)) (length piece) m next _ (told most n at piece) (sym e ∙ h)

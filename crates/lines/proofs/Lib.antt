@@ -3,3 +3,8 @@ pub mod Numbers
 pub mod Rows
 pub mod Said
 pub mod Gathered
+pub mod Decimal
+pub mod Grammar
+pub mod Commands
+pub mod Cuts
+pub mod Pieces

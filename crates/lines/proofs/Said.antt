@@ -85,7 +85,7 @@ unfolding pick
 alike-by true x y xs ys e ih h = let a : x ≡ y = eqb-true x y e in let b : xs ≡ ys = ih h in cc
 alike-by false x y xs ys e ih h = cc
 
-alike-are : (xs ys : List ℕ) → alike xs ys ≡ true → xs ≡ ys
+pub alike-are : (xs ys : List ℕ) → alike xs ys ≡ true → xs ≡ ys
 unfolding alike
 alike-are [] [] h = refl
 alike-are [] (y ∷ ys) h = cc
