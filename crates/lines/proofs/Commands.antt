@@ -1,15 +1,14 @@
 -- A line is read as a command just if it is the command's name, a space and its number. Assumes nothing.
 use mathlib.Core.Path.{_≡_, refl, ap, sym, _∙_}
 use mathlib.Core.Bool.{Bool, true, false}
-use mathlib.Core.List.{List, [], _∷_, _++_}
+use mathlib.Core.List.{List, [], _∷_}
 use mathlib.Core.Option.{Option, none, some}
-use Prim.Native.Nat.{ℕ, suc, _+_, _≤_, _<_}
+use Prim.Native.Nat.{ℕ}
 use native.Mathlib.Omega.{arith}
 use lib.ListN.{length, getD}
 use Rattle.state.specs.Choice.{pick}
 use Rattle.lines.specs.declared.Command.{Command}
 use Rattle.lines.specs.declared.Command.the-variants.{Update, Booted, Boot}
-use Rattle.lines.specs.declared.CommandLine.{CommandLine}
 use Rattle.lines.specs.declared.CommandLine.the-variants as command-line
 use Rattle.lines.specs.Text.{space, first, split, number, more, numbers, exactly, alike}
 use Rattle.lines.specs.Lines.{update, booted, boot, named, ordered, commandOf, commandLine}

@@ -1,14 +1,14 @@
 -- A word is read as n just if it is n in decimal. Assumes nothing.
-use mathlib.Core.Path.{_≡_, refl, ap, sym, _∙_}
+use mathlib.Core.Path.{_≡_, refl, sym, _∙_}
 use mathlib.Core.Bool.{Bool, true, false}
 use mathlib.Core.List.{List, [], _∷_, _++_, append-assoc, append-nil}
-use mathlib.Core.Option.{Option, none, some}
+use mathlib.Core.Option.{none, some}
 use Prim.Native.Nat.{ℕ, zero, suc, _+_, _*_, _-_, _/_, _%_, _^_, _≤_, _<_}
-use native.Mathlib.Nat.{add-zero, add-suc, suc-add, zero-add, lt-of-lt-of-le, mul-le-mul-right, mul-assoc, pow-suc, pow-succ'}
+use native.Mathlib.Nat.{add-zero, zero-add, lt-of-lt-of-le, mul-le-mul-right, mul-assoc, pow-suc, pow-succ'}
 use native.Mathlib.Omega.{arith}
 use lib.Dec.{leb}
-use lib.ListN.{length, length-append}
-use borrow.Author.Tests.{le-leb, leb-true}
+use lib.ListN.{length}
+use borrow.Author.Tests.{leb-true}
 use Rattle.state.specs.Choice.{pick}
 use Rattle.lines.specs.Text.{digit, digits, value, upTo, mostNumber, number}
 use Rattle.lines.specs.Grammar.{spelled, Written}

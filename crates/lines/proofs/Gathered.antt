@@ -1,9 +1,8 @@
 -- Laws of gathering a line from the pieces of the input: a turn of `gather`'s loop and each way out of it. Assumes nothing.
-use mathlib.Core.Path.{_≡_, refl, ap, sym, _∙_}
+use mathlib.Core.Path.{_≡_, refl, sym, _∙_}
 use mathlib.Core.Bool.{Bool, true, false}
-use mathlib.Core.List.{List, [], _∷_}
+use mathlib.Core.List.{List}
 use Prim.Native.Nat.{ℕ, suc, _+_, _-_, _≤_, _<_, min}
-use native.Mathlib.Numerals.{add-one}
 use native.Mathlib.Omega.{arith}
 use lib.Dec.{leb, ltb}
 use lib.ListN.{length, drop, getD, set, length-drop, length-set}
@@ -14,7 +13,7 @@ use Rattle.lines.specs.declared.Taken.{Taken}
 use Rattle.lines.specs.declared.Taken.the-variants.{Line, Part, Long}
 use Rattle.lines.specs.Text.{lineFeed, first}
 use Rattle.lines.specs.Lines.{takenAt, heldThen}
-use Rattle.lines.proofs.Splits.{first-here, first-turn, first-end, first-le}
+use Rattle.lines.proofs.Splits.{first-here, first-turn, first-end}
 
 -- the bytes of the piece from `at` to i are taken, m are held, and none of them is a line feed
 pub record Gathering (before piece held : List ℕ) (n at m i : ℕ) : Type 0 where

@@ -3,13 +3,13 @@ use mathlib.Core.Path.{_≡_, refl, ap, sym, _∙_}
 use mathlib.Core.Bool.{Bool, true, false}
 use mathlib.Core.List.{List, [], _∷_, _++_}
 use mathlib.Core.Option.{Option, none, some}
-use Prim.Native.Nat.{ℕ, suc, _+_, _≤_, _<_}
+use Prim.Native.Nat.{ℕ, suc, _+_, _<_}
 use native.Mathlib.Omega.{arith}
 use lib.Dec.{eqb}
 use lib.ListN.{length}
-use borrow.Author.Tests.{eq-eqb, ne-eqb, eqb-true, eqb-false}
+use borrow.Author.Tests.{eq-eqb, ne-eqb, eqb-true}
 use Rattle.state.specs.Choice.{pick}
-use Rattle.lines.specs.Text.{lineFeed, space, grown, split, first, digit, digits, number, more, numbers, exactly, row}
+use Rattle.lines.specs.Text.{space, grown, split, first, digits, number, more, numbers, exactly, row}
 use Rattle.lines.specs.Grammar.{Written, Row}
 use Rattle.lines.specs.Grammar as grammar
 use Rattle.lines.proofs.Splits.{split-last}

@@ -1,6 +1,6 @@
 -- However the input comes in pieces, `take_line` gathers its lines. What is held is the start of the line that comes next, the piece
 -- from `at` on is what follows it, and `rest` is what no one has read yet. Assumes nothing.
-use mathlib.Core.Path.{_≡_, refl, ap, sym, _∙_}
+use mathlib.Core.Path.{_≡_, refl, ap, _∙_}
 use mathlib.Core.Bool.{Bool, true, false}
 use mathlib.Core.List.{List, [], _∷_, _++_, append-assoc}
 use Prim.Native.Nat.{ℕ, suc, _+_, _-_, _≤_, _<_, min}

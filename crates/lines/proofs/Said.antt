@@ -3,16 +3,16 @@ use mathlib.Core.Path.{_≡_, refl, ap, sym, _∙_}
 use mathlib.Core.Bool.{Bool, true, false, not}
 use mathlib.Core.List.{List, [], _∷_}
 use mathlib.Core.Option.{Option, none, some}
-use Prim.Native.Nat.{ℕ, suc, _+_, _-_, _≤_, _<_}
+use Prim.Native.Nat.{ℕ, _+_, _-_, _≤_, _<_}
 use native.Mathlib.Numerals.{add-one}
 use native.Mathlib.Omega.{arith}
-use lib.Dec.{leb, eqb}
+use lib.Dec.{eqb}
 use lib.ListN.{length, take, drop, getD, length-drop}
 use lib.Seq.{take-all}
 use borrow.Author.Tests.{eq-eqb, eqb-true, le-leb, lt-leb}
 use Rattle.state.specs.Choice.{pick}
 use Rattle.lines.specs.declared.CommandLine.the-variants.{Other}
-use Rattle.lines.specs.Text.{space, first, split, numbers, exactly, row, alike}
+use Rattle.lines.specs.Text.{space, first, numbers, exactly, row, alike}
 use Rattle.lines.specs.Lines.{rowOf, short, mostLength, ordered, commandOf, commandLine}
 use Rattle.lines.proofs.Splits.{first-le, split-last, split-next}
 

@@ -3,10 +3,6 @@ use Prim.Native.Nat.{_-_}
 use borrow.Author.Needs.{needs}
 use Rattle.bench_cases.proofs.main.Statement.{statement}
 use Rattle.bench_cases.proofs.main.Tie as tie
-use Rattle.bench_cases.proofs.main.Reads as reads
-use Rattle.bench_cases.proofs.main.Lts as lts
-use Rattle.bench_cases.proofs.case_at.Reads as case-at-reads
-use Rattle.os.proofs.arg_count.Reads as arg-count-reads
 
 abbrev Inv-loop : tie.InvT-loop
 Inv-loop most i₀ i = Unit {0}
@@ -14,31 +10,24 @@ Inv-loop most i₀ i = Unit {0}
 abbrev μ-loop : tie.MeasureT-loop
 μ-loop most i₀ i = most - i
 
--- src/main.rt:28:9
 arg-count-requires : tie.Need-arg-count-requires Inv-loop μ-loop
 arg-count-requires c κs = search needs
 
--- src/main.rt:30:5
 loop-holds : tie.Need-loop-holds Inv-loop μ-loop
 loop-holds c = search needs
 
--- src/main.rt:31:9
 case-at-requires : tie.Need-case-at-requires Inv-loop μ-loop
 case-at-requires c κs = search needs
 
--- src/main.rt:32:9
 add-i : tie.Need-add-i Inv-loop μ-loop
 add-i c = search needs
 
--- src/main.rt:30:5
 loop-less : tie.Need-loop-less Inv-loop μ-loop
 loop-less c = search needs
 
--- src/main.rt:30:5
 loop-again : tie.Need-loop-again Inv-loop μ-loop
 loop-again c = search needs
 
--- src/main.rt:27:1
 returns : tie.Need-returns Inv-loop μ-loop
 returns c = search needs
 

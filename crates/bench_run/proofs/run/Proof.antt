@@ -2,10 +2,6 @@
 use borrow.Author.Needs.{needs}
 use Rattle.bench_run.proofs.run.Statement.{statement}
 use Rattle.bench_run.proofs.run.Tie as tie
-use Rattle.bench_run.proofs.run.Reads as reads
-use Rattle.bench_run.proofs.run.Lts as lts
-use Rattle.bench_run.proofs.is_over.Reads as is-over-reads
-use Rattle.bench_run.proofs.turn.Reads as turn-reads
 
 abbrev Inv-loop : tie.InvT-loop
 Inv-loop fd held₀ active₀ dfu₀ state₀ b₀ turns₀ held active dfu state b turns = Unit {0}
@@ -13,35 +9,27 @@ Inv-loop fd held₀ active₀ dfu₀ state₀ b₀ turns₀ held active dfu stat
 abbrev μ-loop : tie.MeasureT-loop
 μ-loop fd held₀ active₀ dfu₀ state₀ b₀ turns₀ held active dfu state b turns = turns
 
--- src/lib.rt:272:5
 loop-holds : tie.Need-loop-holds Inv-loop μ-loop
 loop-holds c = search needs
 
--- src/lib.rt:273:12
 is-over-requires : tie.Need-is-over-requires Inv-loop μ-loop
 is-over-requires c κs = search needs
 
--- src/lib.rt:274:13
 returns : tie.Need-returns Inv-loop μ-loop
 returns c = search needs
 
--- src/lib.rt:276:9
 turn-requires : tie.Need-turn-requires Inv-loop μ-loop
 turn-requires c κs = search needs
 
--- src/lib.rt:277:9
 sub-turns : tie.Need-sub-turns Inv-loop μ-loop
 sub-turns c = search needs
 
--- src/lib.rt:272:5
 loop-less : tie.Need-loop-less Inv-loop μ-loop
 loop-less c = search needs
 
--- src/lib.rt:272:5
 loop-again : tie.Need-loop-again Inv-loop μ-loop
 loop-again c = search needs
 
--- src/lib.rt:261:1
 returns-2 : tie.Need-returns-2 Inv-loop μ-loop
 returns-2 c = search needs
 

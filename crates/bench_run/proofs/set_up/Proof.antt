@@ -1,38 +1,28 @@
-use mathlib.Core.Path.{refl, sym}
-use Rattle.bench_run.proofs.Laws.{begun-refused, page-there, begun-admitted}
+-- `set_up`: an admitted geometry has a page, and the images start; a refused one touches nothing. Assumes nothing.
+use mathlib.Core.Path.{refl}
 use borrow.Author.Needs.{needs}
+use Rattle.bench_run.proofs.Laws.{begun-refused, page-there, begun-admitted}
 use Rattle.bench_run.proofs.set_up.Statement.{statement}
 use Rattle.bench_run.proofs.set_up.Tie as tie
-use Rattle.bench_run.proofs.set_up.Reads as reads
-use Rattle.bench_run.proofs.set_up.Lts as lts
-use Rattle.bench_run.proofs.images.start.Reads as start-reads
-use Rattle.geometry.proofs.Geometry.page_size.Reads as page-size-reads
-use Rattle.geometry.proofs.boot_verdict.Reads as boot-verdict-reads
 
--- src/lib.rt:109:9
 boot-verdict-requires : tie.Need-boot-verdict-requires
 boot-verdict-requires c κs = search needs
 
 enum-told : tie.Need-enum-told
 enum-told c = search needs
 
--- src/lib.rt:111:9
 enum-told-2 : tie.Need-enum-told-2
 enum-told-2 c = search needs
 
--- src/lib.rt:111:9
 returns : tie.Need-returns
 returns c = (refl, refl, begun-refused _ _ _ (c .before .before .boot-verdict .ensures) _ _ _ (c .enum-told2 .given .1))
 
--- src/lib.rt:113:19
 page-size-requires : tie.Need-page-size-requires
 page-size-requires c κs = search needs
 
--- src/lib.rt:113:5
 start-requires : tie.Need-start-requires
 start-requires c κs = rw (c .before .before .page-size .ensures) (page-there _ (c .before .before .before .before .before .before .args .l) (c .before .before .before .before .before .boot-verdict .result) (c .before .before .before .before .before .boot-verdict .ensures) (c .before .before .before .enum-told .given .1))
 
--- src/lib.rt:105:1
 returns-2 : tie.Need-returns-2
 returns-2 c = (refl, refl, begun-admitted _ _ _ (c .before .before .before .before .before .before .boot-verdict .ensures) (c .before .before .before .before .enum-told .given .1) _ _ _ _ _ (c .before .before .before .page-size .ensures) (c .start .ensures))
 

@@ -7,8 +7,6 @@ use borrow.Author.Needs.{needs}
 use Rattle.lines.proofs.Gathered.{Gathering, over, begins, ends-line, ends-piece, too-long, goes-on, still-long}
 use Rattle.lines.proofs.gather.Statement.{statement}
 use Rattle.lines.proofs.gather.Tie as tie
-use Rattle.lines.proofs.gather.Reads as reads
-use Rattle.lines.proofs.gather.Lts as lts
 
 abbrev Inv-loop : tie.InvT-loop
 Inv-loop held₀ n piece at m₀ i₀ held m i = (length held ≡ length held₀) × Gathering held₀ piece held n at m i
@@ -16,67 +14,51 @@ Inv-loop held₀ n piece at m₀ i₀ held m i = (length held ≡ length held₀
 abbrev μ-loop : tie.MeasureT-loop
 μ-loop held₀ n piece at m₀ i₀ held m i = length piece - i
 
--- src/lib.rt:67:9
 returns : tie.Need-returns Inv-loop μ-loop
 returns c = over _ _ _ _ (c .if1 .taken)
 
--- src/lib.rt:71:5
 loop-holds : tie.Need-loop-holds Inv-loop μ-loop
 loop-holds c = (search needs, begins _ _ _ _ (c .if1 .left))
 
--- src/lib.rt:72:12
 shared-slice-read-if2 : tie.Need-shared-slice-read-if2 Inv-loop μ-loop
 shared-slice-read-if2 c = search needs
 
--- src/lib.rt:73:35
 add-t13 : tie.Need-add-t13 Inv-loop μ-loop
 add-t13 c = search needs
 
--- src/lib.rt:73:13
 same-length : tie.Need-same-length Inv-loop μ-loop
 same-length c = search needs
 
--- src/lib.rt:73:13
 returns-2 : tie.Need-returns-2 Inv-loop μ-loop
 returns-2 c = ends-line _ _ _ _ _ _ _ (c .before .before .before .loop .inv .1) (c .before .before .loop-test .taken) (c .if2 .taken)
 
--- src/lib.rt:76:13
 same-length-2 : tie.Need-same-length-2 Inv-loop μ-loop
 same-length-2 c = search needs
 
--- src/lib.rt:76:13
 returns-3 : tie.Need-returns-3 Inv-loop μ-loop
 returns-3 c = too-long _ _ _ _ _ _ _ (c .before .before .before .before .loop .inv .1) (c .before .before .before .loop-test .taken) (c .before .if2 .left) (omega (arith, c .if3 .taken, c .before .before .before .before .loop .inv .0))
 
--- src/lib.rt:78:19
 shared-slice-read-held : tie.Need-shared-slice-read-held Inv-loop μ-loop
 shared-slice-read-held c = search needs
 
--- src/lib.rt:78:9
 slice-write-held : tie.Need-slice-write-held Inv-loop μ-loop
 slice-write-held c = search needs
 
--- src/lib.rt:79:9
 add-m : tie.Need-add-m Inv-loop μ-loop
 add-m c = search needs
 
--- src/lib.rt:80:9
 add-i : tie.Need-add-i Inv-loop μ-loop
 add-i c = search needs
 
--- src/lib.rt:71:5
 loop-less : tie.Need-loop-less Inv-loop μ-loop
 loop-less c = search needs
 
--- src/lib.rt:71:5
 loop-again : tie.Need-loop-again Inv-loop μ-loop
 loop-again c = let l = c .before .before .before .before .before .loop in let h = c .before .before .before .before .loop-test .taken in let o = c .before .before .if2 .left in (still-long _ _ _ _ _ _ _ (l .inv .1) h o (l .inv .0), goes-on _ _ _ _ _ _ _ (l .inv .1) h o (omega (arith, c .before .if3 .left, l .inv .0)))
 
--- src/lib.rt:62:1
 same-length-3 : tie.Need-same-length-3 Inv-loop μ-loop
 same-length-3 c = search needs
 
--- src/lib.rt:62:1
 returns-4 : tie.Need-returns-4 Inv-loop μ-loop
 returns-4 c = ends-piece _ _ _ _ _ _ _ (c .before .loop .inv .1) (c .loop-test .left)
 

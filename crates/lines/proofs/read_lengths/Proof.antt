@@ -1,82 +1,62 @@
-use mathlib.Core.Path.{_≡_, sym, ap, _∙_, refl}
-use mathlib.Core.Option.{some}
+-- `read_lengths`: a row of three whose numbers are short, or none. Assumes nothing.
+use mathlib.Core.Path.{sym, ap, _∙_, refl}
+use borrow.Author.Needs.{needs}
 use Rattle.state.specs.Choice.{pick}
 use Rattle.lines.specs.Text.{row}
 use Rattle.lines.specs.Lines.{lengthsLine, lengthsOf}
 use Rattle.lines.proofs.Said.{row-no, row-yes, first-long, second-long, third-long, all-short}
-use borrow.Author.Needs.{needs}
 use Rattle.lines.proofs.read_lengths.Statement.{statement}
 use Rattle.lines.proofs.read_lengths.Tie as tie
-use Rattle.lines.proofs.read_lengths.Reads as reads
-use Rattle.lines.proofs.read_lengths.Lts as lts
-use Rattle.lines.proofs.number.row.Reads as row-reads
-use Rattle.lines.proofs.number.size.Reads as size-reads
 
--- src/lib.rt:103:27
 slice-aggregate-row : tie.Need-slice-aggregate-row
 slice-aggregate-row c = search needs
 
--- src/lib.rt:103:9
 row-requires : tie.Need-row-requires
 row-requires c κs = search needs
 
--- src/lib.rt:104:9
 returns : tie.Need-returns
 unfolding lengthsLine lengthsOf
 returns c = sym (ap lengthsOf (row-no _ _ _ (c .before .before .row .ensures) (c .if1 .taken)))
 
--- src/lib.rt:106:8
 array-read-if2 : tie.Need-array-read-if2
 array-read-if2 c = search needs
 
--- src/lib.rt:107:9
 returns-2 : tie.Need-returns-2
 unfolding lengthsLine lengthsOf pick
 returns-2 c = let r = c .before .before .before .row in sym (ap lengthsOf (row-yes _ _ _ (r .ensures) (c .before .if1 .left)) ∙ rw (first-long (r .last .1 .0) (r .kept .1 .0) (c .if2 .taken)) refl)
 
--- src/lib.rt:109:8
 array-read-if3 : tie.Need-array-read-if3
 array-read-if3 c = search needs
 
--- src/lib.rt:110:9
 returns-3 : tie.Need-returns-3
 unfolding lengthsLine lengthsOf pick
 returns-3 c = let r = c .before .before .before .before .row in sym (ap lengthsOf (row-yes _ _ _ (r .ensures) (c .before .before .if1 .left)) ∙ rw (second-long (r .last .1 .0) (r .kept .1 .0) (c .before .if2 .left) (c .if3 .taken)) refl)
 
--- src/lib.rt:112:8
 array-read-if4 : tie.Need-array-read-if4
 array-read-if4 c = search needs
 
--- src/lib.rt:113:9
 returns-4 : tie.Need-returns-4
 unfolding lengthsLine lengthsOf pick
 returns-4 c = let r = c .before .before .before .before .before .row in sym (ap lengthsOf (row-yes _ _ _ (r .ensures) (c .before .before .before .if1 .left)) ∙ rw (third-long (r .last .1 .0) (r .kept .1 .0) (c .before .before .if2 .left) (c .before .if3 .left) (c .if4 .taken)) refl)
 
--- src/lib.rt:116:30
 array-read-size : tie.Need-array-read-size
 array-read-size c = search needs
 
--- src/lib.rt:116:17
 size-requires : tie.Need-size-requires
 size-requires c κs = search needs
 
--- src/lib.rt:117:27
 array-read-size-2 : tie.Need-array-read-size-2
 array-read-size-2 c = search needs
 
--- src/lib.rt:117:14
 size-requires-2 : tie.Need-size-requires-2
 size-requires-2 c κs = search needs
 
--- src/lib.rt:118:29
 array-read-size-3 : tie.Need-array-read-size-3
 array-read-size-3 c = search needs
 
--- src/lib.rt:118:16
 size-requires-3 : tie.Need-size-requires-3
 size-requires-3 c κs = search needs
 
--- src/lib.rt:99:1
 returns-5 : tie.Need-returns-5
 unfolding lengthsLine lengthsOf pick
 returns-5 c = let r = c .before .before .before .before .before .before .before .before .row in sym (ap lengthsOf (row-yes _ _ _ (r .ensures) (c .before .before .before .before .before .before .if1 .left)) ∙ rw (all-short (r .last .1 .0) (r .kept .1 .0) (c .before .before .before .before .before .if2 .left) (c .before .before .before .before .if3 .left) (c .before .before .before .if4 .left), ← c .before .before .size .ensures, ← c .before .size2 .ensures, ← c .size3 .ensures) refl)

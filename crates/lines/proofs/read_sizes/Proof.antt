@@ -1,55 +1,42 @@
+-- `read_sizes`: a row of seven, or none. Assumes nothing.
 use mathlib.Core.Path.{sym, ap}
+use borrow.Author.Needs.{needs}
 use Rattle.lines.specs.Lines.{sizesLine, sizesOf}
 use Rattle.lines.proofs.Said.{row-no, row-yes}
-use borrow.Author.Needs.{needs}
 use Rattle.lines.proofs.read_sizes.Statement.{statement}
 use Rattle.lines.proofs.read_sizes.Tie as tie
-use Rattle.lines.proofs.read_sizes.Reads as reads
-use Rattle.lines.proofs.read_sizes.Lts as lts
-use Rattle.lines.proofs.number.row.Reads as row-reads
 
--- src/lib.rt:84:27
 slice-aggregate-row : tie.Need-slice-aggregate-row
 slice-aggregate-row c = search needs
 
--- src/lib.rt:84:9
 row-requires : tie.Need-row-requires
 row-requires c κs = search needs
 
--- src/lib.rt:85:9
 returns : tie.Need-returns
 unfolding sizesLine sizesOf
 returns c = sym (ap sizesOf (row-no _ _ _ (c .before .before .row .ensures) (c .if1 .taken)))
 
--- src/lib.rt:88:13
 array-read-t9 : tie.Need-array-read-t9
 array-read-t9 c = search needs
 
--- src/lib.rt:89:13
 array-read-t12 : tie.Need-array-read-t12
 array-read-t12 c = search needs
 
--- src/lib.rt:90:13
 array-read-t15 : tie.Need-array-read-t15
 array-read-t15 c = search needs
 
--- src/lib.rt:91:13
 array-read-t18 : tie.Need-array-read-t18
 array-read-t18 c = search needs
 
--- src/lib.rt:92:13
 array-read-t21 : tie.Need-array-read-t21
 array-read-t21 c = search needs
 
--- src/lib.rt:93:13
 array-read-t24 : tie.Need-array-read-t24
 array-read-t24 c = search needs
 
--- src/lib.rt:94:12
 array-read-t27 : tie.Need-array-read-t27
 array-read-t27 c = search needs
 
--- src/lib.rt:80:1
 returns-2 : tie.Need-returns-2
 unfolding sizesLine sizesOf
 returns-2 c = sym (ap sizesOf (row-yes _ _ _ (c .before .before .row .ensures) (c .if1 .left)))

@@ -1,76 +1,54 @@
-use Rattle.bench_run.proofs.Laws.{obeyed-update, obeyed-booted, obeyed-boot}
+-- `call`: the promise of the call that the command is, with the geometry's sizes. Assumes nothing.
 use borrow.Author.Needs.{needs}
+use Rattle.bench_run.proofs.Laws.{obeyed-update, obeyed-booted, obeyed-boot}
 use Rattle.bench_run.proofs.images.call.Statement.{statement}
 use Rattle.bench_run.proofs.images.call.Tie as tie
-use Rattle.bench_run.proofs.images.call.Reads as reads
-use Rattle.bench_run.proofs.images.call.Lts as lts
-use Rattle.boot_loader.proofs.BootLoader.new.Reads as BootLoader-new-reads
-use Rattle.boot_loader.proofs.BootLoader.prepare_boot.Reads as prepare-boot-reads
-use Rattle.firmware_updater.proofs.BlockingFirmwareState.mark_booted.Reads as mark-booted-reads
-use Rattle.firmware_updater.proofs.BlockingFirmwareState.mark_updated.Reads as mark-updated-reads
-use Rattle.firmware_updater.proofs.BlockingFirmwareState.new.Reads as BlockingFirmwareState-new-reads
 
--- src/images.rt:88:9
 new-requires : tie.Need-new-requires
 new-requires c κs = search needs
 
--- src/images.rt:90:25
 enum-known-command : tie.Need-enum-known-command
 enum-known-command c = search needs
 
--- src/images.rt:90:31
 mark-updated-requires : tie.Need-mark-updated-requires
 mark-updated-requires c κs = search needs
 
--- src/images.rt:91:25
 enum-known-command-2 : tie.Need-enum-known-command-2
 enum-known-command-2 c = search needs
 
--- src/images.rt:91:31
 mark-booted-requires : tie.Need-mark-booted-requires
 mark-booted-requires c κs = search needs
 
--- src/images.rt:92:23
 enum-known-command-3 : tie.Need-enum-known-command-3
 enum-known-command-3 c = search needs
 
--- src/images.rt:92:29
 new-requires-2 : tie.Need-new-requires-2
 new-requires-2 c κs = search needs
 
--- src/images.rt:92:29
 prepare-boot-requires : tie.Need-prepare-boot-requires
 prepare-boot-requires c κs = search needs
 
--- src/images.rt:78:1
 same-length : tie.Need-same-length
 same-length c = search needs
 
--- src/images.rt:78:1
 returns : tie.Need-returns
 returns c = let a = c .before .before .before .before .before .before .before .before .before .before .before .args in let n = c .before .before .before .before .before .before .before .new in obeyed-update (a .g) (n .result .es) (n .result .ws) (n .ensures .0) (n .ensures .1) (a .command) _ (a .active .now) (a .dfu .now) (a .state .now) _ _ (c .before .before .before .before .before .command .given .1) (c .before .before .mark-updated .ensures)
 
--- src/images.rt:78:1
 same-length-2 : tie.Need-same-length-2
 same-length-2 c = search needs
 
--- src/images.rt:78:1
 returns-2 : tie.Need-returns-2
 returns-2 c = let a = c .before .before .before .before .before .before .before .before .before .before .before .args in let n = c .before .before .before .before .before .before .before .new in obeyed-booted (a .g) (n .result .es) (n .result .ws) (n .ensures .0) (n .ensures .1) (a .command) _ (a .active .now) (a .dfu .now) (a .state .now) _ _ (c .before .before .before .before .before .command2 .given .1) (c .before .before .mark-booted .ensures)
 
--- src/images.rt:78:1
 same-length-3 : tie.Need-same-length-3
 same-length-3 c = search needs
 
--- src/images.rt:78:1
 same-length-4 : tie.Need-same-length-4
 same-length-4 c = search needs
 
--- src/images.rt:78:1
 same-length-5 : tie.Need-same-length-5
 same-length-5 c = search needs
 
--- src/images.rt:78:1
 returns-3 : tie.Need-returns-3
 returns-3 c = let a = c .before .before .before .before .before .before .before .before .before .before .before .before .before .before .before .before .before .before .args in obeyed-boot (a .g) _ (a .command) _ (a .active .now) (a .dfu .now) (a .state .now) _ _ _ _ (c .before .before .before .before .before .before .before .before .before .before .new2 .ensures) (c .before .before .before .before .before .before .before .before .before .before .before .before .command3 .given .1) (c .before .before .before .before .before .before .prepare-boot .ensures)
 

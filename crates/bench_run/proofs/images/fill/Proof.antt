@@ -1,15 +1,12 @@
-use Rattle.bench_run.proofs.Laws.{filled-more}
 -- `fill`: the bytes passed are filled. Assumes nothing.
 use mathlib.Core.Path.{_≡_}
 use Prim.Native.Nat.{ℕ, _+_, _-_, _/_, _%_, _<_, _≤_}
 use native.Mathlib.Omega.{arith}
 use lib.ListN.{length, getD, length-set}
 use borrow.Author.Needs.{needs}
+use Rattle.bench_run.proofs.Laws.{filled-more}
 use Rattle.bench_run.proofs.images.fill.Statement.{statement}
 use Rattle.bench_run.proofs.images.fill.Tie as tie
-use Rattle.bench_run.proofs.images.fill.Reads as reads
-use Rattle.bench_run.proofs.images.fill.Lts as lts
-use Rattle.bench_run.proofs.images.page_byte.Reads as page-byte-reads
 
 abbrev Inv-loop : tie.InvT-loop
 Inv-loop area₀ size before i₀ area i = (i ≤ length area) × (length area ≡ length area₀) × ((j : ℕ) → j < i → getD area j 0 ≡ (before + j / size + 1) % 256)
@@ -17,39 +14,30 @@ Inv-loop area₀ size before i₀ area i = (i ≤ length area) × (length area �
 abbrev μ-loop : tie.MeasureT-loop
 μ-loop area₀ size before i₀ area i = length area - i
 
--- src/images.rt:28:5
 loop-holds : tie.Need-loop-holds Inv-loop μ-loop
 loop-holds c = search needs
 
--- src/images.rt:29:37
 div-page-byte : tie.Need-div-page-byte Inv-loop μ-loop
 div-page-byte c = search needs
 
--- src/images.rt:29:19
 page-byte-requires : tie.Need-page-byte-requires Inv-loop μ-loop
 page-byte-requires c κs = search needs
 
--- src/images.rt:29:9
 slice-write-area : tie.Need-slice-write-area Inv-loop μ-loop
 slice-write-area c = search needs
 
--- src/images.rt:30:9
 add-i : tie.Need-add-i Inv-loop μ-loop
 add-i c = search needs
 
--- src/images.rt:28:5
 loop-less : tie.Need-loop-less Inv-loop μ-loop
 loop-less c = simp length-set (omega (arith, c .before .loop-test .taken))
 
--- src/images.rt:28:5
 loop-again : tie.Need-loop-again Inv-loop μ-loop
 loop-again c = (simp length-set (omega (arith, c .before .loop-test .taken)), simp length-set (c .before .before .loop .inv .1), filled-more (c .before .before .before .before .args .size) (c .before .before .before .before .args .before) (c .before .before .loop .i) (c .page-byte .result) (c .before .before .loop .area) (c .before .loop-test .taken) (c .page-byte .ensures) (c .before .before .loop .inv .2))
 
--- src/images.rt:23:1
 same-length : tie.Need-same-length Inv-loop μ-loop
 same-length c = search needs
 
--- src/images.rt:23:1
 returns : tie.Need-returns Inv-loop μ-loop
 returns c = λ i h. c .before .loop .inv .2 i (omega (arith, c .loop-test .left))
 

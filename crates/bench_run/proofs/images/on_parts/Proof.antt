@@ -1,57 +1,43 @@
+-- `on_parts` is safe: each part that is lent lies within its area, as the tests found. Assumes nothing.
 use mathlib.Core.Path.{sym}
 use lib.Seq.{length-take-le}
 use borrow.Author.Needs.{needs}
 use Rattle.bench_run.proofs.images.on_parts.Statement.{statement}
 use Rattle.bench_run.proofs.images.on_parts.Tie as tie
-use Rattle.bench_run.proofs.images.on_parts.Reads as reads
-use Rattle.bench_run.proofs.images.on_parts.Lts as lts
-use Rattle.bench_run.proofs.images.call.Reads as call-reads
 
--- src/images.rt:67:9
 returns : tie.Need-returns
 returns c = search needs
 
--- src/images.rt:72:9
 slice-relend-prefix-call : tie.Need-slice-relend-prefix-call
 slice-relend-prefix-call c = search needs
 
--- src/images.rt:72:9
 slice-aggregate-call : tie.Need-slice-aggregate-call
 slice-aggregate-call c = sym (length-take-le _ _ (search needs))
 
--- src/images.rt:73:9
 slice-relend-prefix-call-2 : tie.Need-slice-relend-prefix-call-2
 slice-relend-prefix-call-2 c = search needs
 
--- src/images.rt:73:9
 slice-aggregate-call-2 : tie.Need-slice-aggregate-call-2
 slice-aggregate-call-2 c = sym (length-take-le _ _ (search needs))
 
--- src/images.rt:74:9
 slice-relend-prefix-call-3 : tie.Need-slice-relend-prefix-call-3
 slice-relend-prefix-call-3 c = search needs
 
--- src/images.rt:74:9
 slice-aggregate-call-3 : tie.Need-slice-aggregate-call-3
 slice-aggregate-call-3 c = sym (length-take-le _ _ (search needs))
 
--- src/images.rt:69:5
 call-requires : tie.Need-call-requires
 call-requires c κs = search needs
 
--- src/images.rt:55:1
 same-length : tie.Need-same-length
 same-length c = search needs
 
--- src/images.rt:55:1
 same-length-2 : tie.Need-same-length-2
 same-length-2 c = search needs
 
--- src/images.rt:55:1
 same-length-3 : tie.Need-same-length-3
 same-length-3 c = search needs
 
--- src/images.rt:55:1
 returns-2 : tie.Need-returns-2
 returns-2 c = search needs
 

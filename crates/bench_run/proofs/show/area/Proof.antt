@@ -1,46 +1,34 @@
+-- `area` is safe: the part that is written lies within the area. Assumes nothing.
 use mathlib.Core.Path.{sym}
 use lib.Seq.{length-take-le}
 use borrow.Author.Needs.{needs}
 use Rattle.bench_run.proofs.show.area.Statement.{statement}
 use Rattle.bench_run.proofs.show.area.Tie as tie
-use Rattle.bench_run.proofs.show.area.Reads as reads
-use Rattle.bench_run.proofs.show.area.Lts as lts
-use Rattle.bench_run.proofs.show.say.Reads as say-reads
-use Rattle.bench_run.proofs.show.say_bytes.Reads as say-bytes-reads
 
--- src/show.rt:173:9
 returns : tie.Need-returns
 returns c = search needs
 
--- src/show.rt:175:9
 say-requires : tie.Need-say-requires
 say-requires c κs = search needs
 
--- src/show.rt:176:9
 returns-2 : tie.Need-returns-2
 returns-2 c = search needs
 
--- src/show.rt:178:19
 slice-aggregate-say-bytes : tie.Need-slice-aggregate-say-bytes
 slice-aggregate-say-bytes c = sym (length-take-le _ _ (search needs))
 
--- src/show.rt:178:9
 say-bytes-requires : tie.Need-say-bytes-requires
 say-bytes-requires c κs = search needs
 
--- src/show.rt:179:9
 returns-3 : tie.Need-returns-3
 returns-3 c = search needs
 
--- src/show.rt:181:9
 slice-aggregate-say : tie.Need-slice-aggregate-say
 slice-aggregate-say c = search needs
 
--- src/show.rt:181:5
 say-requires-2 : tie.Need-say-requires-2
 say-requires-2 c κs = search needs
 
--- src/show.rt:171:1
 returns-4 : tie.Need-returns-4
 returns-4 c = search needs
 

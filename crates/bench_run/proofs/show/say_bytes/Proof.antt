@@ -5,10 +5,6 @@ use lib.ListN.{length}
 use borrow.Author.Needs.{needs}
 use Rattle.bench_run.proofs.show.say_bytes.Statement.{statement}
 use Rattle.bench_run.proofs.show.say_bytes.Tie as tie
-use Rattle.bench_run.proofs.show.say_bytes.Reads as reads
-use Rattle.bench_run.proofs.show.say_bytes.Lts as lts
-use Rattle.bench_run.proofs.show.least.Reads as least-reads
-use Rattle.bench_run.proofs.show.say_hex.Reads as say-hex-reads
 
 abbrev Inv-loop : tie.InvT-loop
 Inv-loop bytes i₀ i = i ≤ length bytes
@@ -16,51 +12,39 @@ Inv-loop bytes i₀ i = i ≤ length bytes
 abbrev μ-loop : tie.MeasureT-loop
 μ-loop bytes i₀ i = length bytes - i
 
--- src/show.rt:160:5
 loop-holds : tie.Need-loop-holds Inv-loop μ-loop
 loop-holds c = search needs
 
--- src/show.rt:161:27
 sub-least : tie.Need-sub-least Inv-loop μ-loop
 sub-least c = search needs
 
--- src/show.rt:161:21
 least-requires : tie.Need-least-requires Inv-loop μ-loop
 least-requires c κs = search needs
 
--- src/show.rt:161:17
 add-e : tie.Need-add-e Inv-loop μ-loop
 add-e c = search needs
 
--- src/show.rt:162:21
 sub-say-hex : tie.Need-sub-say-hex Inv-loop μ-loop
 sub-say-hex c = search needs
 
--- src/show.rt:162:21
 part-say-hex-start : tie.Need-part-say-hex-start Inv-loop μ-loop
 part-say-hex-start c = search needs
 
--- src/show.rt:162:21
 part-say-hex-end : tie.Need-part-say-hex-end Inv-loop μ-loop
 part-say-hex-end c = omega (arith, c .least .ensures, c .before .loop-test .taken)
 
--- src/show.rt:162:13
 say-hex-requires : tie.Need-say-hex-requires Inv-loop μ-loop
 say-hex-requires c κs = search needs
 
--- src/show.rt:163:13
 returns : tie.Need-returns Inv-loop μ-loop
 returns c = search needs
 
--- src/show.rt:160:5
 loop-less : tie.Need-loop-less Inv-loop μ-loop
 loop-less c = omega (arith, c .before .before .before .least .ensures, c .before .before .before .before .loop-test .taken)
 
--- src/show.rt:160:5
 loop-again : tie.Need-loop-again Inv-loop μ-loop
 loop-again c = omega (arith, c .before .before .before .least .ensures, c .before .before .before .before .loop-test .taken)
 
--- src/show.rt:158:1
 returns-2 : tie.Need-returns-2 Inv-loop μ-loop
 returns-2 c = search needs
 

@@ -1,4 +1,3 @@
-use mathlib.Core.Path.{_∙_, sym}
 -- `find`: what is left to pass, from where the search is, ends where the whole search ends. Assumes nothing.
 use mathlib.Core.Path.{_≡_}
 use Prim.Native.Nat.{_+_, _-_}
@@ -9,8 +8,6 @@ use Rattle.lines.specs.Text.{first}
 use Rattle.lines.proofs.Splits.{first-here, first-turn, first-end}
 use Rattle.lines.proofs.number.find.Statement.{statement}
 use Rattle.lines.proofs.number.find.Tie as tie
-use Rattle.lines.proofs.number.find.Reads as reads
-use Rattle.lines.proofs.number.find.Lts as lts
 
 abbrev Inv-loop : tie.InvT-loop
 Inv-loop s at c i₀ i = i + first c (drop i s) ≡ at + first c (drop at s)
@@ -18,31 +15,24 @@ Inv-loop s at c i₀ i = i + first c (drop i s) ≡ at + first c (drop at s)
 abbrev μ-loop : tie.MeasureT-loop
 μ-loop s at c i₀ i = length s - i
 
--- src/number.rt:53:5
 loop-holds : tie.Need-loop-holds Inv-loop μ-loop
 loop-holds c = search needs
 
--- src/number.rt:54:12
 shared-slice-read-if1 : tie.Need-shared-slice-read-if1 Inv-loop μ-loop
 shared-slice-read-if1 c = search needs
 
--- src/number.rt:55:13
 returns : tie.Need-returns Inv-loop μ-loop
 returns c = omega (arith, first-here (c .before .before .before .loop .i) (c .before .before .before .before .args .c) (c .before .before .before .before .args .s .now) (c .before .before .loop-test .taken) (c .if1 .taken))
 
--- src/number.rt:57:9
 add-i : tie.Need-add-i Inv-loop μ-loop
 add-i c = search needs
 
--- src/number.rt:53:5
 loop-less : tie.Need-loop-less Inv-loop μ-loop
 loop-less c = search needs
 
--- src/number.rt:53:5
 loop-again : tie.Need-loop-again Inv-loop μ-loop
 loop-again c = omega (arith, first-turn (c .before .before .before .loop .i) (c .before .before .before .before .args .c) (c .before .before .before .before .args .s .now) (c .before .before .loop-test .taken) (c .if1 .left))
 
--- src/number.rt:49:1
 returns-2 : tie.Need-returns-2 Inv-loop μ-loop
 returns-2 c = omega (arith, first-end (c .before .loop .i) (c .before .before .args .c) (c .before .before .args .s .now) (c .loop-test .left))
 

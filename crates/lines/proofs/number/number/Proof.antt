@@ -1,19 +1,15 @@
-use mathlib.Core.Path.{_∙_, sym, ap}
-use native.Mathlib.Nat.{lt-of-lt-of-le}
-use Rattle.lines.specs.Lines.{numeralOf}
 -- `number`: what is left of the word, read on from the number so far, is what the whole word is. Assumes nothing.
-use mathlib.Core.Path.{_≡_}
+use mathlib.Core.Path.{_∙_, _≡_}
 use Prim.Native.Nat.{_≤_, _<_, _-_}
+use native.Mathlib.Nat.{lt-of-lt-of-le}
 use native.Mathlib.Omega.{arith}
 use lib.ListN.{length, drop, drop-of-length-le}
 use borrow.Author.Needs.{needs}
+use Rattle.lines.specs.Lines.{numeralOf}
 use Rattle.lines.specs.Text.{digits, value, mostNumber}
 use Rattle.lines.proofs.Numbers.{is-digit, below-digits, above-digits, digits-turn, digits-not, value-turn, value-grows, number-empty, number-not, number-over, number-is}
 use Rattle.lines.proofs.number.number.Statement.{statement}
 use Rattle.lines.proofs.number.number.Tie as tie
-use Rattle.lines.proofs.number.number.Reads as reads
-use Rattle.lines.proofs.number.number.Lts as lts
-use Rattle.lines.proofs.number.wide.Reads as wide-reads
 
 abbrev Inv-loop : tie.InvT-loop
 Inv-loop word n₀ i₀ n i =
@@ -26,63 +22,49 @@ Inv-loop word n₀ i₀ n i =
 abbrev μ-loop : tie.MeasureT-loop
 μ-loop word n₀ i₀ n i = length word - i
 
--- src/number.rt:27:9
 returns : tie.Need-returns Inv-loop μ-loop
 unfolding numeralOf
 returns c = number-empty _ (omega arith)
 
--- src/number.rt:31:5
 loop-holds : tie.Need-loop-holds Inv-loop μ-loop
 loop-holds c = search needs
 
--- src/number.rt:32:17
 shared-slice-read-b : tie.Need-shared-slice-read-b Inv-loop μ-loop
 shared-slice-read-b c = search needs
 
--- src/number.rt:34:13
 returns-2 : tie.Need-returns-2 Inv-loop μ-loop
 unfolding numeralOf
 returns-2 c = number-not _ (c .before .before .before .loop .inv .3 ∙ digits-not _ _ (c .before .before .loop-test .taken) (below-digits _ (c .if2 .taken)))
 
--- src/number.rt:37:13
 returns-3 : tie.Need-returns-3 Inv-loop μ-loop
 unfolding numeralOf
 returns-3 c = number-not _ (c .before .before .before .before .loop .inv .3 ∙ digits-not _ _ (c .before .before .before .loop-test .taken) (above-digits _ (c .if3 .taken)))
 
--- src/number.rt:39:13
 mul-n : tie.Need-mul-n Inv-loop μ-loop
 mul-n c = search needs
 
--- src/number.rt:39:22
 wide-requires : tie.Need-wide-requires Inv-loop μ-loop
 wide-requires c κs = search needs
 
--- src/number.rt:39:13
 add-n : tie.Need-add-n Inv-loop μ-loop
 add-n c = search needs
 
--- src/number.rt:41:13
 returns-4 : tie.Need-returns-4 Inv-loop μ-loop
 unfolding numeralOf
 returns-4 c = number-over _ (rw (c .before .before .before .before .before .before .loop .inv .4, value-turn _ _ (c .before .before .before .before .before .loop-test .taken), ← c .before .wide .ensures) (lt-of-lt-of-le (c .if4 .taken) (value-grows _ _)))
 
--- src/number.rt:43:9
 add-i : tie.Need-add-i Inv-loop μ-loop
 add-i c = search needs
 
--- src/number.rt:31:5
 loop-less : tie.Need-loop-less Inv-loop μ-loop
 loop-less c = search needs
 
--- src/number.rt:31:5
 loop-again : tie.Need-loop-again Inv-loop μ-loop
 loop-again c = (search needs, search needs, search needs, c .before .before .before .before .before .before .loop .inv .3 ∙ digits-turn _ _ (c .before .before .before .before .before .loop-test .taken) (is-digit _ (c .before .before .before .if2 .left) (c .before .before .if3 .left)), rw (c .before .wide .ensures) (c .before .before .before .before .before .before .loop .inv .4 ∙ value-turn _ _ (c .before .before .before .before .before .loop-test .taken) _))
 
--- src/number.rt:45:17
 cast-t13 : tie.Need-cast-t13 Inv-loop μ-loop
 cast-t13 c = search needs
 
--- src/number.rt:23:1
 returns-5 : tie.Need-returns-5 Inv-loop μ-loop
 unfolding numeralOf digits value
 returns-5 c = number-is _ _ (c .before .loop .inv .2) (c .before .loop .inv .3 ∙ rw (drop-of-length-le _ (c .loop-test .left))) (c .before .loop .inv .4 ∙ rw (drop-of-length-le _ (c .loop-test .left))) (c .before .loop .inv .1)
