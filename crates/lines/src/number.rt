@@ -1,6 +1,6 @@
 // A word as a number, and the words of a line.
 ghost use mathlib.Core.Path.{_≡_};
-ghost use Prim.Native.Nat.{_+_, _≤_, _<_};
+ghost use Prim.Native.Nat.{_+_};
 ghost use lib.ListN.{drop, length};
 ghost use Rattle.lines.specs.Text.{first, number as Text·number, row as Text·row};
 ghost use Rattle.lines.specs.Lines.{numeralOf, rowOf};
