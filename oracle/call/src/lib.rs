@@ -3,6 +3,8 @@
 
 use std::fmt;
 
+pub mod random;
+
 /// The calls of the C boundary. The numbers are those of the replay format.
 #[derive(Clone, Copy, PartialEq, Eq, Debug)]
 #[repr(u32)]

@@ -4,11 +4,10 @@ use std::panic::{AssertUnwindSafe, catch_unwind};
 use std::process::exit;
 
 use call::{Answers, Bench, CUT, Call, Family, Hex, Kind, NO_STATE, Word, number_of, operations_of, pack};
+use library::GuardedLibrary;
 use model::Model;
 use model::table::{self, Lengths};
 use original::Original;
-
-use crate::library::GuardedLibrary;
 
 const MOST_DIFFERENCES: usize = 10;
 

@@ -2,13 +2,13 @@
 
 pub mod boots;
 pub mod judge;
-pub mod library;
 pub mod lives;
 pub mod power;
-pub mod random;
 pub mod refusals;
 pub mod replay;
 pub mod shapes;
 pub mod sheet;
 pub mod states;
 pub mod updaters;
+
+pub use call::random;

@@ -5,11 +5,11 @@ use std::io;
 use std::path::Path;
 
 use call::{Answers, Bench, Call, Geometry, Kind, NO_SECTOR, Word, operations_of};
+use library::Library;
 use model::Model;
 use original::Original;
 
 use crate::judge::refusal_of;
-use crate::library::Library;
 use crate::random::Random;
 use crate::refusals;
 use crate::shapes::{Shape, all_shapes, image};

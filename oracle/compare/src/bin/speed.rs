@@ -9,9 +9,9 @@ use std::hint::black_box;
 use std::time::{Duration, Instant};
 
 use call::{Answers, Bench, Call, Geometry, Kind, NO_SECTOR, operations_of};
-use compare::library::Library;
 use compare::random::Random;
 use embedded_storage::nor_flash::{ErrorType, NorFlash, ReadNorFlash};
+use library::Library;
 use original::mem_flash::{MemFlash, Supply};
 use original::{
     BlockingFirmwareState, BlockingFirmwareUpdater, BootLoader, BootLoaderConfig, FirmwareUpdaterConfig,
