@@ -55,10 +55,11 @@ pub enum Slip {
     BudgetsAddUp,
     ThousandCommands,
     FourKilobytes,
+    OneRead,
 }
 
 /// Slips of the program itself, by name.
-const OWN: [(&str, Slip); 47] = [
+const OWN: [(&str, Slip); 48] = [
     ("line-of-81-accepted", Slip::LineOf81Accepted),
     ("line-of-80-refused", Slip::LineOf80Refused),
     ("last-line-needs-line-feed", Slip::LastLineNeedsLineFeed),
@@ -106,6 +107,7 @@ const OWN: [(&str, Slip); 47] = [
     ("budgets-add-up", Slip::BudgetsAddUp),
     ("thousand-commands", Slip::ThousandCommands),
     ("four-kilobytes", Slip::FourKilobytes),
+    ("one-read", Slip::OneRead),
 ];
 
 /// The model's ways that show in what the three commands can reach.

@@ -14,6 +14,10 @@ use call::random::Random;
 
 const USAGE: &str = "usage: bench-compare [--seed N] [--program FILE] [--examples FOLDER]";
 const MOST_DIFFERENCES: usize = 3;
+/// So many inputs are asked at a time, and then looked at one by one.
+const BATCH: usize = 64;
+/// One input in so many is sent in pieces.
+const SLOWLY: usize = 32;
 /// Of an input or output this much is shown.
 const SHOWN: usize = 600;
 
@@ -33,8 +37,8 @@ fn main() {
     for (name, section) in SECTIONS {
         let start = Instant::now();
         let inputs = section(&mut random);
-        for input in &inputs {
-            judge.compare(name, input, &Reading::RIGHT.output(input));
+        for batch in inputs.chunks(BATCH) {
+            judge.compare_all(name, batch);
         }
         println!("{:>6} inputs  {:>6.2} s  {name}", inputs.len(), start.elapsed().as_secs_f32());
     }
@@ -97,16 +101,25 @@ impl Judge {
             if Reading::RIGHT.output(&input) != output {
                 stop(path, "its output beside it isn't what the reading gives");
             }
-            self.compare(&path.display().to_string(), &input, &output);
+            let found = self.program.output(&input, 1);
+            self.compare(&path.display().to_string(), &input, &output, found);
         }
         inputs.len()
     }
 
-    fn compare(&mut self, section: &str, input: &[u8], expected: &[u8]) {
+    fn compare_all(&mut self, section: &str, inputs: &[Vec<u8>]) {
+        let pieces = |at: usize| if at.is_multiple_of(SLOWLY) { 3 } else { 1 };
+        let asked: Vec<(&[u8], usize)> =
+            inputs.iter().enumerate().map(|(at, input)| (&input[..], pieces(at))).collect();
+        for (input, found) in inputs.iter().zip(self.program.outputs(&asked)) {
+            self.compare(section, input, &Reading::RIGHT.output(input), found);
+        }
+    }
+
+    fn compare(&mut self, section: &str, input: &[u8], expected: &[u8], found: Result<Vec<u8>, String>) {
         self.inputs += 1;
         self.bad += usize::from(has_line(expected, |line| line.starts_with(b"bad line")));
         self.refused += usize::from(has_line(expected, shows_refusal));
-        let found = self.program.output(input);
         if found.as_deref() == Ok(expected) {
             return;
         }

@@ -17,6 +17,12 @@ fn main() -> io::Result<()> {
         Ok(name) => Slip::named(&name).unwrap_or_else(|| panic!("no way to err is called {name}")),
     };
     let mut input = Vec::new();
-    io::stdin().read_to_end(&mut input)?;
+    if slip == Slip::OneRead {
+        input.resize(1 << 20, 0);
+        let read = io::stdin().read(&mut input)?;
+        input.truncate(read);
+    } else {
+        io::stdin().read_to_end(&mut input)?;
+    }
     io::stdout().write_all(&Reading { slip }.output(&input))
 }
