@@ -74,7 +74,7 @@ uint64_t eb_updater_write_firmware(uint8_t *dfu, size_t dfu_length, const uint8_
                                    uint32_t wd, uint32_t es, uint32_t ws, uint64_t offset, const uint8_t *data,
                                    size_t data_length, uint32_t *last, uint32_t budget);
 
-/* Erases all of DFU, as one operation. */
+/* Erases all of DFU, unit by unit: each is one operation. */
 uint64_t eb_updater_prepare_update(uint8_t *dfu, size_t dfu_length, const uint8_t *state, size_t state_length, uint32_t ed,
                                    uint32_t wd, uint32_t es, uint32_t ws, uint32_t budget);
 

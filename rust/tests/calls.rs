@@ -133,7 +133,9 @@ fn an_update() {
     assert_eq!(out, [0xFF, 3, 4]);
 
     assert_eq!(updater.prepare_update(&mut dfu, &state, 0), Answer::Cut(0));
-    assert_eq!(updater.prepare_update(&mut dfu, &state, 1), Answer::Done(1));
+    assert_eq!(updater.prepare_update(&mut dfu, &state, 1), Answer::Cut(1));
+    assert_eq!(dfu[..8], [0xFF, 0xFF, 0xFF, 0xFF, 3, 4, 0xFF, 0xFF]);
+    assert_eq!(updater.prepare_update(&mut dfu, &state, 4), Answer::Done(4));
     assert_eq!(dfu, [0xFF; 16]);
     assert_eq!(updater.last_erased(), Some(2));
 

@@ -157,7 +157,9 @@ static void updates(void)
 
     CHECK(is(eb_updater_prepare_update(dfu, 16, state, 16, 4, 2, 16, 1, 0), EB_CUT, EB_NO_STATE, 0));
     CHECK(dfu[0] == 9);
-    CHECK(is(eb_updater_prepare_update(dfu, 16, state, 16, 4, 2, 16, 1, 1), EB_DONE, EB_NO_STATE, 1));
+    CHECK(is(eb_updater_prepare_update(dfu, 16, state, 16, 4, 2, 16, 1, 1), EB_CUT, EB_NO_STATE, 1));
+    CHECK(!memcmp(dfu, "\xFF\xFF\xFF\xFF\3\4\xFF\xFF", 8));
+    CHECK(is(eb_updater_prepare_update(dfu, 16, state, 16, 4, 2, 16, 1, 4), EB_DONE, EB_NO_STATE, 4));
     CHECK(!memcmp(dfu, "\xFF\xFF\xFF\xFF\xFF\xFF\xFF\xFF\xFF\xFF\xFF\xFF\xFF\xFF\xFF\xFF", 16));
 
     CHECK(is(eb_updater_mark_dfu(dfu, 16, state, 16, 4, 2, 16, 1, 9), EB_DONE, EB_NO_STATE, 3));

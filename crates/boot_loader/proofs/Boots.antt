@@ -71,11 +71,11 @@ module _ (g : Geometry) (k : ℕ) (A D S A₁ D₁ S₁ : List ℕ) (r : Flow) (
       pub invalid-cut : q ≡ Cut → Ran k (bootOpsIn Swap g (flash A D S)) (flash A D S) (flash A₁ D₁ S₂) Cut
       invalid-cut p = finish _ _ (then-cut (l .0) (invalidateOp (g .ws) ∷ []) _ _ _ q (i A₁ D₁) p)
 
-      pub boot-revert : (m : Budget) (S₃ : List ℕ) (p : Flow) → q ≡ On m → length S₂ ≡ length S → Renewed (m .0) (g .ws) 0xC0 S₂ S₃ p
+      pub boot-revert : (m : Budget) (S₃ : List ℕ) (p : Flow) → q ≡ On m → length S₂ ≡ length S → Renewed (m .0) (g .es) (g .ws) 0xC0 S₂ S₃ p
           → Ran k (bootOpsIn Swap g (flash A D S)) (flash A D S) (flash A₁ D₁ S₃) p
       unfolding magic
       boot-revert m S₃ p e z v =
-          finish _ _ (then-on (l .0) (invalidateOp (g .ws) ∷ []) _ _ _ q (i A₁ D₁) m e ∙ (rw z at (v (g .es) A₁ D₁)))
+          finish _ _ (then-on (l .0) (invalidateOp (g .ws) ∷ []) _ _ _ q (i A₁ D₁) m e ∙ (rw z at (v A₁ D₁)))
 
 -- ---- the call
 

@@ -53,19 +53,18 @@ chunk-end k at from b count i src xs h a f =
 
 -- ---- a page: the erase, then the chunks
 
-module _ (k to from p b : ℕ) (src xs xs₁ : List ℕ) (r : Flow)
-    (w : (unit : ℕ) → InArea k (λ a. eraseOps unit a to (to + p - to)) xs xs₁ r) where
-  wiped : (unit : ℕ) → InArea k (λ a. eraseOps unit a to p) xs xs₁ r
-  wiped unit = let e : to + p - to ≡ p = omega arith in rw e at (w unit)
+module _ (k unit to from p b : ℕ) (src xs xs₁ : List ℕ) (r : Flow) (w : InArea k (λ a. eraseOps unit a to (to + p - to)) xs xs₁ r) where
+  wiped : InArea k (λ a. eraseOps unit a to p) xs xs₁ r
+  wiped = let e : to + p - to ≡ p = omega arith in rw e at w
 
-  pub fill-cut : r ≡ Cut → (unit : ℕ) → InArea k (fillOps unit p b to from src) xs xs₁ Cut
+  pub fill-cut : r ≡ Cut → InArea k (fillOps unit p b to from src) xs xs₁ Cut
   unfolding fillOps
-  fill-cut o unit = area-cut k _ xs xs₁ r (wiped unit) (λ a. chunkOps (p / b) a to from b src) o
+  fill-cut o = area-cut k _ xs xs₁ r wiped (λ a. chunkOps (p / b) a to from b src) o
 
   pub fill-on : (l : Budget) (xs₂ : List ℕ) (q : Flow) → r ≡ On l → InArea (l .0) (λ a. chunkOps (p / b) a to from b src) xs₁ xs₂ q
-      → (unit : ℕ) → InArea k (fillOps unit p b to from src) xs xs₂ q
+      → InArea k (fillOps unit p b to from src) xs xs₂ q
   unfolding fillOps
-  fill-on l xs₂ q o v unit = area-on k _ xs xs₁ r (wiped unit) (λ a. chunkOps (p / b) a to from b src) l xs₂ q o v
+  fill-on l xs₂ q o v = area-on k _ xs xs₁ r wiped (λ a. chunkOps (p / b) a to from b src) l xs₂ q o v
 
 -- ---- a step: not run, or the page and then its mark
 
@@ -101,36 +100,36 @@ module _ (g : Geometry) (i from to k : ℕ) (A D S : List ℕ) (m : ℕ) (read :
     low : progress (g .ws) S ≤ i
     low = rw read at h
 
-    filled : (src xs : List ℕ) → ((unit : ℕ) → InArea k (fillOps unit p (g .b) at off src) xs X r)
-        → (unit : ℕ) → InArea k (fillOps unit p (g .b) (to * p) (from * p) src) xs X r
-    filled src xs w unit = rw (x, y) at (w unit)
+    filled : (unit : ℕ) (src xs : List ℕ) → InArea k (fillOps unit p (g .b) at off src) xs X r
+        → InArea k (fillOps unit p (g .b) (to * p) (from * p) src) xs X r
+    filled unit src xs w = rw (x, y) at w
 
-    pub dfu-cut : ((unit : ℕ) → InArea k (fillOps unit p (g .b) at off A) D X r) → r ≡ Cut
+    pub dfu-cut : InArea k (fillOps (g .ed) p (g .b) at off A) D X r → r ≡ Cut
         → Ran k (onceOps g (toDfu i from to) (flash A D S)) (flash A D S) (flash A X S) Cut
-    unfolding toDfu sourceOf placed change fills
+    unfolding toDfu sourceOf unitOf placed change fills
     dfu-cut w o =
         ran _ _ _ _ _
-        (once-cut g (toDfu i from to) (flash A D S) k p e (flash A X S) r (filled A D w (unitOf g dfu) dfu (flash A D S)) low o)
+        (once-cut g (toDfu i from to) (flash A D S) k p e (flash A X S) r (filled (g .ed) A D w dfu (flash A D S)) low o)
 
-    pub dfu-on : (l : Budget) (Y : List ℕ) (q : Flow) → ((unit : ℕ) → InArea k (fillOps unit p (g .b) at off A) D X r) → r ≡ On l
+    pub dfu-on : (l : Budget) (Y : List ℕ) (q : Flow) → InArea k (fillOps (g .ed) p (g .b) at off A) D X r → r ≡ On l
         → InState (l .0) (markOp (g .ws) i ∷ []) S Y q
         → Ran k (onceOps g (toDfu i from to) (flash A D S)) (flash A D S) (flash A X Y) q
-    unfolding toDfu sourceOf placed change fills
+    unfolding toDfu sourceOf unitOf placed change fills
     dfu-on l Y q w o v =
         ran _ _ _ _ _
-        (once-on g (toDfu i from to) (flash A D S) k p e (flash A X S) r (filled A D w (unitOf g dfu) dfu (flash A D S)) low l (flash A X Y) q o (v A X))
+        (once-on g (toDfu i from to) (flash A D S) k p e (flash A X S) r (filled (g .ed) A D w dfu (flash A D S)) low l (flash A X Y) q o (v A X))
 
-    pub active-cut : ((unit : ℕ) → InArea k (fillOps unit p (g .b) at off D) A X r) → r ≡ Cut
+    pub active-cut : InArea k (fillOps (g .ea) p (g .b) at off D) A X r → r ≡ Cut
         → Ran k (onceOps g (toActive i from to) (flash A D S)) (flash A D S) (flash X D S) Cut
-    unfolding toActive sourceOf placed change fills
+    unfolding toActive sourceOf unitOf placed change fills
     active-cut w o =
         ran _ _ _ _ _
-        (once-cut g (toActive i from to) (flash A D S) k p e (flash X D S) r (filled D A w (unitOf g active) active (flash A D S)) low o)
+        (once-cut g (toActive i from to) (flash A D S) k p e (flash X D S) r (filled (g .ea) D A w active (flash A D S)) low o)
 
-    pub active-on : (l : Budget) (Y : List ℕ) (q : Flow) → ((unit : ℕ) → InArea k (fillOps unit p (g .b) at off D) A X r) → r ≡ On l
+    pub active-on : (l : Budget) (Y : List ℕ) (q : Flow) → InArea k (fillOps (g .ea) p (g .b) at off D) A X r → r ≡ On l
         → InState (l .0) (markOp (g .ws) i ∷ []) S Y q
         → Ran k (onceOps g (toActive i from to) (flash A D S)) (flash A D S) (flash X D Y) q
-    unfolding toActive sourceOf placed change fills
+    unfolding toActive sourceOf unitOf placed change fills
     active-on l Y q w o v =
         ran _ _ _ _ _
-        (once-on g (toActive i from to) (flash A D S) k p e (flash X D S) r (filled D A w (unitOf g active) active (flash A D S)) low l (flash X D Y) q o (v X D))
+        (once-on g (toActive i from to) (flash A D S) k p e (flash X D S) r (filled (g .ea) D A w active (flash A D S)) low l (flash X D Y) q o (v X D))

@@ -98,11 +98,12 @@ impl BootLoader {
         let Flow::On(second) = self.revert(active, dfu, state, left) else {
             return Flow::Cut;
         };
+        let es = self.geometry.es as usize;
         let ws = self.geometry.ws as usize;
         let Flow::On(third) = state_area::invalidate(state, ws, second) else {
             return Flow::Cut;
         };
-        state_area::renew(state, ws, State::REVERT_MAGIC, third)
+        state_area::renew(state, es, ws, State::REVERT_MAGIC, third)
     }
 
     fn is_swapped(self, active: &[u8], state: &[u8]) -> bool
@@ -158,6 +159,7 @@ impl BootLoader {
                 dfu,
                 page_offset(from, p),
                 p,
+                g.ea as usize,
                 g.b as usize,
                 left,
             ) else {
@@ -193,6 +195,7 @@ impl BootLoader {
                 active,
                 page_offset(from, p),
                 p,
+                g.ed as usize,
                 g.b as usize,
                 left,
             ) else {
@@ -312,14 +315,15 @@ fn copy_page(
     source: &[u8],
     from: Offset,
     page_size: usize,
+    unit: usize,
     b: usize,
     left: Budget,
 ) -> Flow
     requires { ⌜ (0 < b) × («page_size» / b * b ≡ «page_size») × (to .0 + «page_size» ≤ length (now target)) × (from .0 + «page_size» ≤ length (now source)) ⌝ }
-    ensures { λ r. ⌜ ((unit : ℕ) → InArea (left .0) (fillOps unit «page_size» b (to .0) (from .0) (now (source .entry))) (now (target .entry)) (now (target .exit)) r) ⌝ }
+    ensures { λ r. ⌜ InArea (left .0) (fillOps unit «page_size» b (to .0) (from .0) (now (source .entry))) (now (target .entry)) (now (target .exit)) r ⌝ }
 {
     let end = to.0 + page_size;
-    let Flow::On(rest) = mem_flash::erase(target, to, Offset(end), left) else {
+    let Flow::On(rest) = mem_flash::erase(target, to, Offset(end), unit, left) else {
         return Flow::Cut;
     };
     copy_chunks(target, to, source, from, page_size / b, b, rest)

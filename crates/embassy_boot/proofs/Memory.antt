@@ -14,7 +14,7 @@ use Rattle.state.specs.Choice.{pick}
 use Rattle.geometry.specs.declared.Sizes.{Sizes}
 use Rattle.geometry.specs.Refusals.{mostLength}
 use Rattle.geometry.proofs.Rows.{updater-admits}
-use Rattle.mem_flash.specs.Flash.{Area, Flash, Op, erase, write, eraseOps}
+use Rattle.mem_flash.specs.Flash.{Area, Flash, Op, erase, write}
 use Rattle.rules.specs.declared.Sector.{Sector}
 use Rattle.rules.specs.declared.Sector.the-variants.{None, At}
 use Rattle.rules.specs.FirmwareUpdater.{room, Piece, piecesFrom, pieces, remembers, piecesOps, rememberedOp, remembered, pending, badRange, updaterCall, writeFirmware, memory}
@@ -85,7 +85,7 @@ erases-pick false (erased h x) y = erased h (erases-pick false x y)
 erases-pick false (written x) y = written (erases-pick false x y)
 
 erases : {l : ℕ} {ps : List Piece} (ed : ℕ) (m : Sector) → Starts l ps → Erases l (piecesOps ed m ps)
-unfolding piecesOps eraseOps
+unfolding piecesOps
 erases ed m none = none
 erases ed m (one {p} h s) =
     erases-pick (remembers m (p .at / ed))

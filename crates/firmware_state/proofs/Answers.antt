@@ -39,19 +39,19 @@ module _ (es ws m k : ℕ) (st : List ℕ) where
   magic-there l e a d = rw e
 
   module _ (n : throughout m (word ws 0 st) ≡ false) where
-    pub magic-renew : (st₁ : List ℕ) (r : Flow) → valid ws st ≡ false → Renewed k ws m st st₁ r → InState k (setMagicOps es ws m st) st st₁ r
+    pub magic-renew : (st₁ : List ℕ) (r : Flow) → valid ws st ≡ false → Renewed k es ws m st st₁ r → InState k (setMagicOps es ws m st) st st₁ r
     unfolding setMagicOps pick
-    magic-renew st₁ r v w a d = rw (n, v) (w es a d)
+    magic-renew st₁ r v w a d = rw (n, v) (w a d)
 
     module _ (v : valid ws st ≡ true) (st₁ : List ℕ) (r : Flow) (i : Invalidated k ws st st₁ r) where
       pub magic-cut : r ≡ Cut → InState k (setMagicOps es ws m st) st st₁ Cut
       unfolding setMagicOps pick
       magic-cut o a d = rw (n, v) (then-cut k (invalidateOp ws ∷ []) _ _ _ r (i a d) o)
 
-      pub magic-on : (l : Budget) (st₂ : List ℕ) (q : Flow) → r ≡ On l → length st₁ ≡ length st → Renewed (l .0) ws m st₁ st₂ q
+      pub magic-on : (l : Budget) (st₂ : List ℕ) (q : Flow) → r ≡ On l → length st₁ ≡ length st → Renewed (l .0) es ws m st₁ st₂ q
           → InState k (setMagicOps es ws m st) st st₂ q
       unfolding setMagicOps pick
-      magic-on l st₂ q o z w a d = rw (n, v) (then-on k (invalidateOp ws ∷ []) _ _ _ r (i a d) l o ∙ (rw z at (w es a d)))
+      magic-on l st₂ q o z w a d = rw (n, v) (then-on k (invalidateOp ws ∷ []) _ _ _ r (i a d) l o ∙ (rw z at (w a d)))
 
 -- what a call that marks leaves, from what the setting of the magic did
 module _ (c : Call) (k : ℕ) (st st₁ a d : List ℕ) (ops : List Op) (r : Flow) (v : Verdict) (e : verdict v ≡ c .refusal) (o : v ≡ verdicts.Admitted)

@@ -82,7 +82,7 @@ impl BlockingFirmwareState {
 
     // What the six calls that mark share: the refusal as it was judged, else the magic.
     pub fn mark(self, state: &mut [u8], s: State, judged: Verdict, budget: u32) -> Answer
-        ensures { λ r. ⌜ ((c : Call) (es : ℕ) (a d : List ℕ) → verdict judged ≡ c .refusal → c .state ≡ none → c .ops ≡ setMagicOps es (self .ws) (magic s) (now (state .entry))
+        ensures { λ r. ⌜ ((c : Call) (a d : List ℕ) → verdict judged ≡ c .refusal → c .state ≡ none → c .ops ≡ setMagicOps (self .es) (self .ws) (magic s) (now (state .entry))
             → Did c budget (flash a d (now (state .entry))) (flash a d (now (state .exit))) r) ⌝ }
     {
         if let Verdict::Refused(why) = judged {
@@ -96,8 +96,9 @@ impl BlockingFirmwareState {
 
     // The magic and an erased area, by way of an invalid progress: a cut on the way leaves no progress that counts.
     fn set_magic(self, state: &mut [u8], magic: u8, left: Budget) -> Flow
-        ensures { λ r. ⌜ ((es : ℕ) → InState (left .0) (setMagicOps es (self .ws) magic (now (state .entry))) (now (state .entry)) (now (state .exit)) r) ⌝ }
+        ensures { λ r. ⌜ InState (left .0) (setMagicOps (self .es) (self .ws) magic (now (state .entry))) (now (state .entry)) (now (state .exit)) r ⌝ }
     {
+        let es = self.es as usize;
         let ws = self.ws as usize;
         if state_area::magic_is(state, ws, magic) {
             return Flow::On(left);
@@ -106,8 +107,8 @@ impl BlockingFirmwareState {
             let Flow::On(rest) = state_area::invalidate(state, ws, left) else {
                 return Flow::Cut;
             };
-            return state_area::renew(state, ws, magic, rest);
+            return state_area::renew(state, es, ws, magic, rest);
         }
-        state_area::renew(state, ws, magic, left)
+        state_area::renew(state, es, ws, magic, left)
     }
 }

@@ -186,10 +186,10 @@ module _ (u : BlockingFirmwareUpdater) (k : ℕ) (d s : List ℕ) (v : Verdict) 
     unfolding prepareUpdate updaterCall
     update-refused w o = record { did = did-refused (prepareUpdate (u .sizes) (flash [] d s)) k (flash [] d s) v w e o; updater = refl }
 
-    module _ (o : v ≡ verdicts.Admitted) (d₁ : List ℕ) (r : Flow) (w : (unit : ℕ) → InArea k (λ a. eraseOps unit a 0 (length d - 0)) d d₁ r) where
+    module _ (o : v ≡ verdicts.Admitted) (d₁ : List ℕ) (r : Flow) (w : InArea k (λ a. eraseOps (u .sizes .ed) a 0 (length d - 0)) d d₁ r) where
       erases : Ran k (eraseOps (u .sizes .ed) dfu 0 (length d)) (flash [] d s) (flash [] d₁ s) r
       unfolding placed change
-      erases = ran _ _ _ _ _ (rw (sub-zero (length d)) at (w (u .sizes .ed) dfu (flash [] d s)))
+      erases = ran _ _ _ _ _ (rw (sub-zero (length d)) at (w dfu (flash [] d s)))
 
       pub update-cut : r ≡ Cut → PreparedUpdate u k d s d₁ u (answers.Cut k)
       unfolding prepareUpdate updaterCall

@@ -9,7 +9,7 @@ use native.Mathlib.Omega.{arith}
 use lib.ListN.{length, take, drop, length-drop, drop-of-length-le}
 use lib.Seq.{take-all, drop-drop}
 use Rattle.state.specs.Choice.{pick}
-use Rattle.mem_flash.specs.Flash.{Op, dfu, eraseOps, write}
+use Rattle.mem_flash.specs.Flash.{Op, dfu, erase, write}
 use Rattle.rules.specs.declared.Sector.{Sector}
 use Rattle.rules.specs.declared.Sector.the-variants.{At}
 use Rattle.rules.specs.FirmwareUpdater.{room, Piece, piecesFrom, pieces, remembers, piecesOps}
@@ -85,4 +85,4 @@ pub pieces-ops : (ed at : ℕ) (m : Sector) (bytes : List ℕ) (ps : List Piece)
     → piecesOps ed m (record { at = at; bytes = bytes } ∷ ps) ≡ pieceOps ed m at bytes ++ piecesOps ed (At (at / ed)) ps
 unfolding piecesOps pieceOps
 pieces-ops ed at m bytes ps =
-    sym (append-assoc (pick (remembers m (at / ed)) [] (eraseOps ed dfu (at / ed * ed) ed)) (write dfu at bytes ∷ []) (piecesOps ed (At (at / ed)) ps))
+    sym (append-assoc (pick (remembers m (at / ed)) [] (erase dfu (at / ed * ed) ed ∷ [])) (write dfu at bytes ∷ []) (piecesOps ed (At (at / ed)) ps))

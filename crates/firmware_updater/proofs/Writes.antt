@@ -14,8 +14,8 @@ use Rattle.mem_flash.specs.declared.Budget.{Budget}
 use Rattle.mem_flash.specs.declared.Flow.{Flow}
 use Rattle.mem_flash.specs.declared.Flow.the-variants.{On, Cut}
 use Rattle.mem_flash.specs.Flash.{Area, dfu, Op, erase, write, change, eraseOps}
-use Rattle.mem_flash.specs.Run.{flash, on, ended, run, placed, InArea, writeOps}
-use Rattle.mem_flash.proofs.Runs.{then-on, then-cut, ran}
+use Rattle.mem_flash.specs.Run.{flash, on, ended, run, placed, InArea, unitOp, writeOps}
+use Rattle.mem_flash.proofs.Runs.{then-on, then-cut, ran, erase-one}
 use Rattle.rules.specs.declared.Sector.{Sector}
 use Rattle.rules.specs.declared.Sector.the-variants.{None, At}
 use Rattle.rules.specs.FirmwareUpdater.{remembers, rememberedOp, remembered}
@@ -77,23 +77,26 @@ wrote-write zero ed at bs m xs xs′ r w = record { flash = λ a s. w dfu (flash
 wrote-write (suc k) ed at bs m xs xs′ r w = record { flash = λ a s. w dfu (flash a xs s); memory = none-kept k ed m }
 
 module _ (k ed s : ℕ) (m : Sector) (xs xs′ : List ℕ) (r : Flow) (p : 0 < ed)
-    (w : (unit : ℕ) → InArea k (λ a. eraseOps unit a (s * ed) (s * ed + ed - s * ed)) xs xs′ r) where
-  erases : (a b : List ℕ) → run k (eraseOps ed dfu (s * ed) ed) (flash a xs b) ≡ ended (flash a xs′ b) r
+    (w : InArea k (λ a. eraseOps ed a (s * ed) (s * ed + ed - s * ed)) xs xs′ r) where
+  abbrev unit : List Op
+  unit = unitOp (s * ed) ed dfu
+
+  erases : (a b : List ℕ) → run k unit (flash a xs b) ≡ ended (flash a xs′ b) r
   unfolding placed change
-  erases a b = let e : s * ed + ed - s * ed ≡ ed = omega arith in rw e at (w ed dfu (flash a xs b))
+  erases a b = erase-one k ed (s * ed) _ xs xs′ r p (omega arith) w dfu (flash a xs b)
 
   -- an erase that is done is remembered
-  wrote-erase : (l : Budget) → r ≡ On l → WroteBy k ed (eraseOps ed dfu (s * ed) ed) m (At s) xs xs′ r
-  unfolding eraseOps remembered rememberedOp
+  wrote-erase : (l : Budget) → r ≡ On l → WroteBy k ed unit m (At s) xs xs′ r
+  unfolding remembered rememberedOp
   wrote-erase l o =
-      let n = ran-count k (eraseOps ed dfu (s * ed) ed) (flash [] xs []) (flash [] xs′ []) r (ran _ _ _ _ _ (erases [] [])) l o in
-      record { flash = erases; memory = sym (rw (take-all k (eraseOps ed dfu (s * ed) ed) (n .0)) (ap At (mul-div-cancel s p))) }
+      let n = ran-count k unit (flash [] xs []) (flash [] xs′ []) r (ran _ _ _ _ _ (erases [] [])) l o in
+      record { flash = erases; memory = sym (rw (take-all k unit (n .0)) (ap At (mul-div-cancel s p))) }
 
   -- one that is cut is not
-  wrote-erase-cut : r ≡ Cut → WroteBy k ed (eraseOps ed dfu (s * ed) ed) m m xs xs′ r
-  unfolding eraseOps remembered
+  wrote-erase-cut : r ≡ Cut → WroteBy k ed unit m m xs xs′ r
+  unfolding remembered
   wrote-erase-cut o =
-      let n = ran-over k (eraseOps ed dfu (s * ed) ed) (flash [] xs []) (flash [] xs′ []) r (ran _ _ _ _ _ (erases [] [])) o in
+      let n = ran-over k unit (flash [] xs []) (flash [] xs′ []) r (ran _ _ _ _ _ (erases [] [])) o in
       let h : k < 1 = leb-false 1 k n in
       let z : k ≡ 0 = omega arith in
       record { flash = erases; memory = rw z }
@@ -113,7 +116,7 @@ module _ (k ed at : ℕ) (bytes : List ℕ) (m : Sector) (xs xs′ : List ℕ) (
 
   -- it was not: the erase first
   module _ (e : remembers m (at / ed) ≡ false) (p : 0 < ed)
-      (w : (unit : ℕ) → InArea k (λ a. eraseOps unit a (at / ed * ed) (at / ed * ed + ed - at / ed * ed)) xs xs′ r) where
+      (w : InArea k (λ a. eraseOps ed a (at / ed * ed) (at / ed * ed + ed - at / ed * ed)) xs xs′ r) where
     pub piece-cut : r ≡ Cut → WroteBy k ed (pieceOps ed m at bytes) m m xs xs′ Cut
     unfolding pieceOps pick
     piece-cut o = rw e (wrote-cut k ed _ m m xs xs′ r (wrote-erase-cut k ed (at / ed) m xs xs′ r p w o) (write dfu at bytes ∷ []) o)

@@ -167,7 +167,9 @@ impl BlockingFirmwareUpdater {
             };
         }
         let n = dfu.len();
-        let Flow::On(rest) = mem_flash::erase(dfu, Offset(0), Offset(n), Budget(budget)) else {
+        let unit = self.sizes.ed as usize;
+        let Flow::On(rest) = mem_flash::erase(dfu, Offset(0), Offset(n), unit, Budget(budget))
+        else {
             return Written {
                 updater: self,
                 answer: Answer::Cut(budget),

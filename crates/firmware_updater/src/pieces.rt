@@ -47,7 +47,7 @@ pub fn write_piece(
         return Wrote { last, flow };
     }
     let start = sector * ed;
-    let Flow::On(rest) = mem_flash::erase(dfu, Offset(start), Offset(start + ed), left) else {
+    let Flow::On(rest) = mem_flash::erase(dfu, Offset(start), Offset(start + ed), ed, left) else {
         return Wrote {
             last,
             flow: Flow::Cut,

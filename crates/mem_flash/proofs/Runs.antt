@@ -3,8 +3,8 @@
 use mathlib.Core.Path.{_≡_, refl, ap, _∙_, sym}
 use mathlib.Core.Bool.{Bool, true, false}
 use mathlib.Core.List.{List, [], _∷_, _++_}
-use Prim.Native.Nat.{ℕ, zero, suc, _-_, _≤_, _<_}
-use native.Mathlib.Nat.{sub-zero, suc-sub-suc, not-suc-le-zero}
+use Prim.Native.Nat.{ℕ, zero, suc, _+_, _-_, _/_, _≤_, _<_}
+use native.Mathlib.Nat.{sub-zero, suc-sub-suc, not-suc-le-zero, div-zero, zero-div, div-self}
 use native.Mathlib.Omega.{arith}
 use lib.Dec.{leb, leb·zero, leb·suc-zero, leb·suc-suc}
 use lib.ListN.{length, take}
@@ -12,8 +12,8 @@ use Rattle.state.specs.Choice.{pick}
 use Rattle.mem_flash.specs.declared.Budget.{Budget}
 use Rattle.mem_flash.specs.declared.Flow.{Flow}
 use Rattle.mem_flash.specs.declared.Flow.the-variants.{On, Cut}
-use Rattle.mem_flash.specs.Flash.{Area, active, dfu, state, Flash, Op, erase, write, erasedAt, writtenAt, change, apply, applyAll, after, eraseOps}
-use Rattle.mem_flash.specs.Run.{End, on, ended, run, outcome, Ran, placed, InArea, writeOps}
+use Rattle.mem_flash.specs.Flash.{Area, active, dfu, state, Flash, Op, erase, write, erasedAt, writtenAt, change, apply, applyAll, after, unitOps, eraseOps}
+use Rattle.mem_flash.specs.Run.{End, on, ended, run, outcome, Ran, placed, InArea, unitOp, writeOps}
 
 -- ---- two runs
 
@@ -94,19 +94,17 @@ write-placed active at bs xs f = refl
 write-placed dfu at bs xs f = refl
 write-placed state at bs xs f = refl
 
-pub cut-erase : (k from n : ℕ) (xs : List ℕ) → k ≡ 0 → (unit : ℕ) → InArea k (λ a. eraseOps unit a from n) xs xs Cut
-unfolding eraseOps
-cut-erase k from n xs e unit a f = run-cut k _ _ _ e
+pub cut-erase : (k at n : ℕ) (xs : List ℕ) → k ≡ 0 → InArea k (unitOp at n) xs xs Cut
+cut-erase k at n xs e a f = run-cut k _ _ _ e
 
 pub cut-write : (k at : ℕ) (bs xs : List ℕ) → k ≡ 0 → InArea k (writeOps at bs) xs xs Cut
 cut-write k at bs xs e a f = run-cut k _ _ _ e
 
 module _ (k : ℕ) (xs xs′ : List ℕ) (h : 0 < k) where
-  pub on-erase : (from n : ℕ) → xs′ ≡ erasedAt from n xs → (unit : ℕ) → InArea k (λ a. eraseOps unit a from n) xs xs′ (on (k - 1))
-  unfolding eraseOps
-  on-erase from n e unit a f =
-      run-one k (erase a from n) (placed a xs f) h
-      ∙ ap (λ g. ended g (on (k - 1))) (erase-placed a from n xs f ∙ ap (λ l. placed a l f) (sym e))
+  pub on-erase : (at n : ℕ) → xs′ ≡ erasedAt at n xs → InArea k (unitOp at n) xs xs′ (on (k - 1))
+  on-erase at n e a f =
+      run-one k (erase a at n) (placed a xs f) h
+      ∙ ap (λ g. ended g (on (k - 1))) (erase-placed a at n xs f ∙ ap (λ l. placed a l f) (sym e))
 
   pub on-write : (at : ℕ) (bs : List ℕ) → xs′ ≡ writtenAt at bs xs → InArea k (writeOps at bs) xs xs′ (on (k - 1))
   on-write at bs e a f =
@@ -121,3 +119,47 @@ module _ (k : ℕ) (os : Area → List Op) (xs xs₁ : List ℕ) (r : Flow) (w :
 
   pub area-cut : (ps : Area → List Op) → r ≡ Cut → InArea k (λ a. os a ++ ps a) xs xs₁ Cut
   area-cut ps o a f = then-cut k (os a) (ps a) (placed a xs f) (placed a xs₁ f) r (w a f) o
+
+-- ---- an erase, unit by unit: a turn, a cut, the end
+
+module _ (k at unit end count i : ℕ) (xs xs′ : List ℕ) (r : Flow) (w : InArea k (unitOp at (end - at)) xs xs′ r) (e : end ≡ at + unit)
+    (h : i < count) where
+  one-more : count - i ≡ suc (count - (i + 1))
+  one-more = omega arith
+
+  one : InArea k (unitOp at unit) xs xs′ r
+  one = let z : end - at ≡ unit = omega arith in rw z at w
+
+  pub unit-on : (l : Budget) → r ≡ On l → (a : Area) (f : Flash)
+      → run k (unitOps (count - i) unit a at) (placed a xs f) ≡ run (l .0) (unitOps (count - (i + 1)) unit a end) (placed a xs′ f)
+  unfolding unitOps
+  unit-on l o a f = rw (one-more, e) (then-on k (unitOp at unit a) _ (placed a xs f) (placed a xs′ f) r (one a f) l o)
+
+  pub unit-cut : r ≡ Cut → (a : Area) (f : Flash) → run k (unitOps (count - i) unit a at) (placed a xs f) ≡ ended (placed a xs′ f) Cut
+  unfolding unitOps
+  unit-cut o a f = rw one-more (then-cut k (unitOp at unit a) _ (placed a xs f) (placed a xs′ f) r (one a f) o)
+
+-- no unit is left to erase
+pub units-none : (k count unit at : ℕ) (xs : List ℕ) → count ≡ 0 → InArea k (λ a. unitOps count unit a at) xs xs (on k)
+unfolding unitOps run
+units-none k count unit at xs e a f = rw e
+
+-- units of no bytes, or an end before the start
+pub erase-unitless : (k unit from n : ℕ) (xs : List ℕ) → unit ≡ 0 → InArea k (λ a. eraseOps unit a from n) xs xs (on k)
+unfolding eraseOps
+erase-unitless k unit from n xs e = units-none k (n / unit) unit from xs (ap (λ (u : ℕ). n / u) e ∙ div-zero n)
+
+pub erase-nothing : (k unit from n : ℕ) (xs : List ℕ) → n ≡ 0 → InArea k (λ a. eraseOps unit a from n) xs xs (on k)
+unfolding eraseOps
+erase-nothing k unit from n xs e = units-none k (n / unit) unit from xs (ap (λ (m : ℕ). m / unit) e ∙ zero-div unit)
+
+-- one unit
+pub erase-one : (k unit from n : ℕ) (xs xs′ : List ℕ) (r : Flow) → 0 < unit → n ≡ unit → InArea k (λ a. eraseOps unit a from n) xs xs′ r
+    → InArea k (unitOp from unit) xs xs′ r
+unfolding eraseOps unitOps
+erase-one k unit from n xs xs′ r h e w = let z : n / unit ≡ 1 = ap (λ (m : ℕ). m / unit) e ∙ div-self h in rw z at w
+
+pub erase-all : (k unit from n : ℕ) (xs xs′ : List ℕ) (r : Flow) → InArea k (λ a. unitOps (n / unit) unit a from) xs xs′ r
+    → InArea k (λ a. eraseOps unit a from n) xs xs′ r
+unfolding eraseOps
+erase-all k unit from n xs xs′ r w = w

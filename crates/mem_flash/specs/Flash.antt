@@ -1,6 +1,6 @@
 -- Document 01, "The flash we model": areas, operations and what they do. Assumes nothing.
 use mathlib.Core.List.{List, [], _∷_, _++_}
-use Prim.Native.Nat.{ℕ, zero, suc}
+use Prim.Native.Nat.{ℕ, zero, suc, _+_, _/_}
 use lib.Bits.{bitAnd}
 use lib.ListN.{take, drop}
 use Rattle.state.specs.Magic.{erased}
@@ -62,6 +62,11 @@ applyAll (o ∷ os) f = applyAll os (apply o f)
 unfoldable pub after : ℕ → List Op → Flash → Flash
 after k os f = applyAll (take k os) f
 
--- an erase of n bytes of an area whose erase units have `unit` bytes: one operation, however many units it spans
+-- so many erase units of an area from an offset on, in rising order: each is one operation
+unfoldable pub unitOps : ℕ → ℕ → Area → ℕ → List Op
+unitOps zero unit a from = []
+unitOps (suc n) unit a from = erase a from unit ∷ unitOps n unit a (from + unit)
+
+-- an erase of n bytes of an area whose erase units have `unit` bytes
 unfoldable pub eraseOps : ℕ → Area → ℕ → ℕ → List Op
-eraseOps unit a from n = erase a from n ∷ []
+eraseOps unit a from n = unitOps (n / unit) unit a from

@@ -8,7 +8,7 @@ use lib.ListN.{length}
 use Rattle.state.specs.Choice.{pick}
 use Rattle.mem_flash.specs.declared.Flow.{Flow}
 use Rattle.mem_flash.specs.declared.Flow.the-variants.{On, Cut}
-use Rattle.mem_flash.specs.Flash.{Area, Flash, Op, write, change, apply, after, eraseOps}
+use Rattle.mem_flash.specs.Flash.{Area, Flash, Op, erase, write, change, apply, after}
 
 -- the flash of three areas
 abbrev pub flash : List ℕ → List ℕ → List ℕ → Flash
@@ -49,6 +49,9 @@ placed a xs f = change a (λ _. xs) f
 abbrev pub InArea : ℕ → (Area → List Op) → List ℕ → List ℕ → Flow → Type 0
 InArea k os xs xs′ r = (a : Area) (f : Flash) → run k (os a) (placed a xs f) ≡ ended (placed a xs′ f) r
 
--- a write as a list of operations, with its area last
+-- an erase of one unit, and a write, as lists of operations with their area last
+abbrev pub unitOp : ℕ → ℕ → Area → List Op
+unitOp at n a = erase a at n ∷ []
+
 abbrev pub writeOps : ℕ → List ℕ → Area → List Op
 writeOps at bs a = write a at bs ∷ []

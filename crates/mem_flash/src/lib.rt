@@ -1,10 +1,10 @@
 // Flash in memory: mem_flash.rs, with a budget that erases count against too, and writes that let bits fall.
 // A range that runs past the end of an area changes the bytes that are there, so nothing is asked of the caller.
 ghost use mathlib.Core.Path.{_≡_};
-ghost use Prim.Native.Nat.{ℕ, _+_, _-_, _≤_, min};
+ghost use Prim.Native.Nat.{_+_, _-_, _*_, _≤_, _<_, _^_, min};
 ghost use lib.ListN.{length, take, replicate};
-ghost use Rattle.mem_flash.specs.Flash.{erasedAt, writtenAt, eraseOps};
-ghost use Rattle.mem_flash.specs.Run.{InArea, writeOps};
+ghost use Rattle.mem_flash.specs.Flash.{erasedAt, writtenAt, unitOps, eraseOps};
+ghost use Rattle.mem_flash.specs.Run.{InArea, unitOp, writeOps};
 use geometry::Offset;
 use state::State;
 
@@ -56,17 +56,50 @@ fn program_word(area: &mut [u8], at: usize, value: u8, len: usize)
     }
 }
 
-// Erases the bytes from one offset up to another: one operation.
-pub fn erase(area: &mut [u8], from: Offset, to: Offset, left: Budget) -> Flow
-    ensures { λ r. ⌜ ((unit : ℕ) → InArea (left .0) (λ a. eraseOps unit a (from .0) (to .0 - from .0)) (now (area .entry)) (now (area .exit)) r) ⌝ }
+// Erases one unit: one operation.
+fn erase_unit(area: &mut [u8], at: usize, end: usize, left: Budget) -> Flow
+    ensures { λ r. ⌜ InArea (left .0) (unitOp at (end - at)) (now (area .entry)) (now (area .exit)) r ⌝ }
 {
     let k = left.0;
     if k == 0 {
         return Flow::Cut;
     }
-    let end = least(to.0, area.len());
-    fill(area, from.0, end);
+    let stop = least(end, area.len());
+    fill(area, at, stop);
     Flow::On(Budget(k - 1))
+}
+
+// Erases so many units from an offset on, until a cut.
+fn erase_units(area: &mut [u8], from: usize, count: usize, unit: usize, left: Budget) -> Flow
+    requires { ⌜ from + count * unit < 2 ^ 64 ⌝ }
+    ensures { λ r. ⌜ InArea (left .0) (λ a. unitOps count unit a from) (now (area .entry)) (now (area .exit)) r ⌝ }
+{
+    let mut at = from;
+    let mut still = left;
+    let mut i = 0;
+    while i < count {
+        let end = at + unit;
+        let Flow::On(rest) = erase_unit(area, at, end, still) else {
+            return Flow::Cut;
+        };
+        still = rest;
+        at = end;
+        i += 1;
+    }
+    Flow::On(still)
+}
+
+// Erases the bytes from one offset up to another, unit by unit: each unit is one operation. Units of no bytes are none.
+pub fn erase(area: &mut [u8], from: Offset, to: Offset, unit: usize, left: Budget) -> Flow
+    ensures { λ r. ⌜ InArea (left .0) (λ a. eraseOps unit a (from .0) (to .0 - from .0)) (now (area .entry)) (now (area .exit)) r ⌝ }
+{
+    if unit == 0 {
+        return Flow::On(left);
+    }
+    if to.0 < from.0 {
+        return Flow::On(left);
+    }
+    erase_units(area, from.0, (to.0 - from.0) / unit, unit, left)
 }
 
 // Writes bytes at an offset: one operation.

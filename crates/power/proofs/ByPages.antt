@@ -11,7 +11,7 @@ use Rattle.geometry.specs.declared.Geometry.{Geometry}
 use Rattle.geometry.specs.Geometry.{page, words}
 use Rattle.mem_flash.specs.Flash.{Flash}
 use Rattle.rules.specs.Steps.{pageCount}
-use Rattle.rules.specs.Power.{pageAt, withPage, swapTable, revertImages}
+use Rattle.rules.specs.Power.{pageAt, withPage, swapTable, revertImages, revertMarks}
 use Rattle.power.specs.Power.{Ready, ran, runs}
 use Rattle.power.specs.Pages.{SwappedPages, RevertedPages, NeverMixed}
 use Rattle.power.proofs.Pages.{pages-le}
@@ -101,7 +101,9 @@ module _ (g : Geometry) (f : Flash) (r : Ready g f) where
         reverted = λ ks k w. go ks k (turns g f r ks k w);
       }
     where
-      go : (ks : List ℕ) (k : ℕ) → Turns g ks k (swapTable g f) (f .active) (revertedDfu g f) (length (f .state))
+      go : (ks : List ℕ) (k : ℕ)
+          → Turns g ks k (swapTable g f) (f .active) (revertedDfu g f) (length (f .state))
+          (revertMarks (g .ws) (pageCount g f) (length (f .state)))
           → RevertedPages g f (ran g k (runs g ks (swapTable g f)))
       go ks k (inl e) = subst (RevertedPages g f) (sym (e .1 .flash)) (reverted-pages _)
-      go ks k (inr e) = subst (RevertedPages g f) (sym (e .1 .flash)) (reverted-pages _)
+      go ks k (inr e) = subst (RevertedPages g f) (sym (e .4 .flash)) (reverted-pages _)

@@ -2,11 +2,11 @@
 -- page holds that is erased and filled in chunks. Cited throughout this crate. Of the byte rule they use that an erased byte
 -- takes what is written. Assumes nothing.
 use mathlib.Core.Path.{_≡_, refl, sym, ap, ap₂, _∙_, subst}
-use mathlib.Core.List.{List, [], _∷_, _++_, append-assoc}
+use mathlib.Core.List.{List, [], _∷_, _++_, append-assoc, append-nil}
 use Prim.Native.Nat.{ℕ, zero, suc, _+_, _-_, _*_, _≤_, _<_}
-use native.Mathlib.Nat.{zero-mul, suc-mul, min-le-left, not-suc-le-zero, le-of-suc-le-suc}
+use native.Mathlib.Nat.{zero-mul, suc-mul, zero-add, suc-add, min-le-left, not-suc-le-zero, le-of-suc-le-suc}
 use native.Mathlib.Omega.{arith}
-use lib.ListN.{length, take, drop, replicate, length-append, length-take, length-drop, length-replicate, replicate-append-replicate, take-append-drop}
+use lib.ListN.{length, take, drop, replicate, length-append, length-take, length-drop, length-replicate, replicate-append-replicate, take-append-drop, drop-of-length-le}
 use lib.Seq.{take-at, drop-at, take-append-le, drop-append-add, take-take, drop-drop, take-add, length-take-le}
 use Rattle.state.specs.Magic.{erased}
 use Rattle.mem_flash.specs.Flash.{programmed, blank, program, erasedAt, writtenAt}
@@ -36,7 +36,7 @@ bytes-replicate (suc n) x h = (h, bytes-replicate n x h)
 -- ---- erases and writes
 
 -- within an area an erase is a run of erased bytes
-blank-is : (n : ℕ) (ys : List ℕ) → n ≤ length ys → blank n ys ≡ replicate n erased ++ drop n ys
+pub blank-is : (n : ℕ) (ys : List ℕ) → n ≤ length ys → blank n ys ≡ replicate n erased ++ drop n ys
 unfolding blank
 blank-is zero ys h = refl
 blank-is (suc n) [] h = absurd (not-suc-le-zero h)
@@ -49,6 +49,33 @@ erased-within from n xs fit =
     ap (λ (l : List ℕ). take from xs ++ l)
     (blank-is n (drop from xs) (simp length-drop (omega arith))
     ∙ ap (λ (l : List ℕ). replicate n erased ++ l) (drop-drop n from xs))
+
+-- an erase of all bytes
+pub blank-all : (n : ℕ) (ys : List ℕ) → length ys ≡ n → blank n ys ≡ replicate n erased
+blank-all n ys e =
+    blank-is n ys (omega arith) ∙ ap (λ (l : List ℕ). replicate n erased ++ l) (drop-of-length-le ys {i = n} (omega arith))
+    ∙ append-nil (replicate n erased)
+
+-- an erase, and one right behind it, are one erase of both stretches
+erased-nil : (from n : ℕ) → erasedAt from n [] ≡ []
+unfolding erasedAt blank
+erased-nil zero zero = refl
+erased-nil zero (suc n) = refl
+erased-nil (suc from) zero = refl
+erased-nil (suc from) (suc n) = refl
+
+blank-add : (n m : ℕ) (xs : List ℕ) → erasedAt n m (blank n xs) ≡ blank (n + m) xs
+unfolding erasedAt blank
+blank-add zero m xs = ap (λ (k : ℕ). blank k xs) (sym (zero-add m))
+blank-add (suc n) m [] = erased-nil (suc n) m ∙ sym (erased-nil 0 (suc n + m))
+blank-add (suc n) m (x ∷ xs) = rw (suc-add n m) (ap (λ (l : List ℕ). erased ∷ l) (blank-add n m xs))
+
+pub erased-add : (from n m : ℕ) (xs : List ℕ) → erasedAt (from + n) m (erasedAt from n xs) ≡ erasedAt from (n + m) xs
+unfolding erasedAt
+erased-add zero n m xs = ap (λ (k : ℕ). erasedAt k m (blank n xs)) (zero-add n) ∙ blank-add n m xs
+erased-add (suc from) n m [] =
+    ap (erasedAt (suc from + n) m) (erased-nil (suc from) n) ∙ erased-nil (suc from + n) m ∙ sym (erased-nil (suc from) (n + m))
+erased-add (suc from) n m (x ∷ xs) = rw (suc-add from n) (ap (λ (l : List ℕ). x ∷ l) (erased-add from n m xs))
 
 pub program-none : (xs : List ℕ) → program xs [] ≡ xs
 unfolding program

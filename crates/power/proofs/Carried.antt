@@ -1,14 +1,13 @@
 -- Demand 3 of the code: what prepare_boot's contract allows is what the definition says, run after run. Assumes nothing.
 use mathlib.Core.Path.{_≡_, refl, ap, _∙_, sym, subst}
-use mathlib.Core.List.{List, [], _∷_}
+use mathlib.Core.List.{List}
 use Prim.Native.Nat.{ℕ}
 use Rattle.geometry.specs.declared.Geometry.{Geometry}
 use Rattle.mem_flash.specs.Flash.{Flash}
 use Rattle.rules.specs.declared.Answer.{Answer}
-use Rattle.rules.specs.Calls.{Report, reported, report, left, Did}
-use Rattle.rules.specs.Boot.{prepareBoot}
-use Rattle.power.specs.Power.{Ready, answer, ran, Cut, runs, AllCut, FirstWhole, Ends, Rests, Power}
-use Rattle.power.specs.Carried.{IsCut, CutRuns, none, more, Then, CodePower}
+use Rattle.rules.specs.Calls.{Report, reported}
+use Rattle.power.specs.Power.{Ready, answer, ran, Cut, runs, AllCut, FirstWhole}
+use Rattle.power.specs.Carried.{CutRuns, none, more, Then, CodePower}
 use Rattle.power.proofs.Proved.{power}
 
 -- cut runs of the code are the definition's
@@ -45,7 +44,8 @@ code-power g f m =
     record {
       swaps = λ t. (let e = p .swaps _ _ (first t) in (leaves t ∙ e .flash, ap (λ (q : Report). q .state) (told t) ∙ e .state));
       reverts = λ t n. (let e = p .reverts _ _ (first t) n in (leaves t ∙ e .flash, ap (λ (q : Report). q .state) (told t) ∙ e .state));
-      rests = λ t n. (let e = p .rests _ _ (first t) n in (leaves t ∙ e .flash, ap (λ (q : Report). q .state) (told t ∙ e .answers)));
+      rests = λ n t one most o.
+          (let e = p .rests _ _ n (first t) one most o in (leaves t ∙ e .flash, ap (λ (q : Report). q .state) (told t ∙ e .answers)));
       swap-soon = λ a w. p .swap-soon _ a (all-cut w);
       revert-soon = λ a w. p .revert-soon _ a (all-cut w);
     }

@@ -1,10 +1,11 @@
 -- How many operations a call does at the most, so that a count of 32 bits is enough (specs/Cuts, `EveryCount`). A boot runs 2N
--- steps and three operations more; a write two for each byte. Assumes nothing.
+-- steps and then two operations and the state's units; a mark no more than those; a write two for each byte; prepare_update the DFU's
+-- units. Assumes nothing.
 use mathlib.Core.Path.{_≡_, refl, ap}
 use mathlib.Core.Bool.{Bool, true, false}
 use mathlib.Core.List.{List, [], _∷_, _++_}
-use Prim.Native.Nat.{ℕ, zero, suc, _+_, _*_, _/_, _≤_, _<_, zero-le}
-use native.Mathlib.Nat.{mul-le-mul-left, div-le-self}
+use Prim.Native.Nat.{ℕ, zero, suc, _+_, _*_, _/_, _≤_, _<_, max, zero-le}
+use native.Mathlib.Nat.{mul-le-mul-left, div-le-self, div-le-of-le-mul, le-max-left, le-max-right}
 use native.Mathlib.Omega.{arith}
 use lib.Dec.{eqb, lit<}
 use lib.ListN.{length, drop, length-append}
@@ -16,23 +17,24 @@ use Rattle.state.specs.Magic.{magic}
 use Rattle.geometry.specs.declared.Geometry.{Geometry}
 use Rattle.geometry.specs.declared.Sizes.{Sizes}
 use Rattle.geometry.specs.Geometry.{page, pages}
-use Rattle.geometry.specs.Refusals.{any, mostLength, uneven, outside, updaterRefusal, lowest}
-use Rattle.geometry.proofs.Rows.{admitted}
+use Rattle.geometry.specs.Refusals.{any, mostLength, uneven, outside, stateRefusal, updaterRefusal, lowest}
+use Rattle.geometry.proofs.Rows.{admitted, updater-admits}
 use Rattle.geometry.proofs.Tests.{any-none, row-none, length-in, even-times, page-some}
-use Rattle.mem_flash.specs.Flash.{dfu, state, Flash, Op, write, applyAll, eraseOps}
+use Rattle.mem_flash.specs.Flash.{Area, active, dfu, state, Flash, Op, erase, write, applyAll, eraseOps}
 use Rattle.rules.specs.declared.Sector.{Sector}
 use Rattle.rules.specs.declared.Sector.the-variants.{At}
-use Rattle.rules.specs.StateArea.{valid, invalidateOp, magicOp}
-use Rattle.rules.specs.Steps.{Copy, copyOps, onceOps, copiesOps, swapSteps, revertSteps, pageCount, swapOps, revertOps}
+use Rattle.rules.specs.StateArea.{valid, invalidateOp}
+use Rattle.rules.specs.Steps.{Copy, unitOf, copyOps, onceOps, copiesOps, swapSteps, revertSteps, pageCount, swapOps, revertOps}
 use Rattle.rules.specs.Boot.{renewOps, finishOps, bootOpsIn, bootOps, prepareBoot}
 use Rattle.rules.specs.FirmwareState.{setMagicOps, mark}
 use Rattle.rules.specs.FirmwareUpdater.{room, Piece, piecesFrom, pieces, remembers, piecesOps, pastEnd, badRange, updaterCall, updaterMark, updaterMarkUpdated, updaterMarkDfu, updaterMarkBooted, writeFirmware, prepareUpdate}
-use Rattle.rules.specs.Power.{stepCost}
+use Rattle.rules.specs.Power.{stateUnits, stepCost, dearerCost}
 use Rattle.power.specs.Cuts.{EveryCount}
+use Rattle.power.proofs.Areas.{Image}
 use Rattle.power.proofs.Erases.{erase-count}
 use Rattle.power.proofs.Steps.{step-count}
-use Rattle.power.proofs.Tables.{swap-count, revert-count}
-use Rattle.power.proofs.Finish.{finish-count}
+use Rattle.power.proofs.Tables.{swap-count, revert-count, Row, swap-row, revert-row}
+use Rattle.power.proofs.Finish.{renew-count, finish-count}
 
 -- one of two lists
 pick-count : (b : Bool) (os ps : List Op) (n : ℕ) → length os ≤ n → length ps ≤ n → length (pick b os ps) ≤ n
@@ -42,81 +44,125 @@ pick-count false os ps n h k = k
 
 -- ---- prepare_boot
 
-once-count : (g : Geometry) (c : Copy) (f : Flash) → length (onceOps g c f) ≤ stepCost g
-unfolding onceOps
-once-count g c f = pick-count _ (copyOps g c f) [] (stepCost g) (omega (arith, step-count g c f)) zero-le
+once-count : (g : Geometry) (c : Copy) (f : Flash) → Image (c .to) → length (onceOps g c f) ≤ dearerCost g
+unfolding onceOps dearerCost
+once-count g c f i = pick-count _ (copyOps g c f) [] (dearerCost g) (go (c .to) i (step-count g c f)) zero-le
+  where
+    go : (a : Area) → Image a → length (copyOps g c f) ≡ stepCost g a → length (copyOps g c f) ≤ max (stepCost g dfu) (stepCost g active)
+    go active i e = rw e (le-max-right (stepCost g dfu) (stepCost g active))
+    go dfu i e = rw e (le-max-left (stepCost g dfu) (stepCost g active))
+    go state i e = absurd i
 
-copies-count : (g : Geometry) (cs : List Copy) (f : Flash) → length (copiesOps g cs f) ≤ length cs * stepCost g
+copies-count : (g : Geometry) (cs : List Copy) (i : ℕ) (f : Flash) → Row i cs → length (copiesOps g cs f) ≤ length cs * dearerCost g
 unfolding copiesOps
-copies-count g [] f = zero-le
-copies-count g (c ∷ cs) f =
+copies-count g [] i f r = zero-le
+copies-count g (c ∷ cs) i f r =
     omega (
       arith,
       length-append (onceOps g c f) (copiesOps g cs (applyAll (onceOps g c f) f)),
-      once-count g c f,
-      copies-count g cs
-          (applyAll (onceOps g c f) f),
+      once-count g c f (r .0),
+      copies-count g cs (suc i) (applyAll (onceOps g c f) f) (r .2),
     )
 
 module _ (g : Geometry) (f : Flash) where
   abbrev N : ℕ
   N = pageCount g f
 
-  swap-most : length (swapOps g f) ≤ 2 * N * stepCost g + 3
-  unfolding swapOps swapSteps
-  swap-most = omega (arith, copies-count g (swapSteps N) f, ap (λ (n : ℕ). n * stepCost g) (swap-count N 0))
+  abbrev most : ℕ
+  most = 2 * N * dearerCost g + (2 + stateUnits g f)
 
-  revert-most : length (revertOps g f ++ finishOps g f) ≤ 2 * N * stepCost g + 3
-  unfolding revertOps revertSteps
+  swap-most : length (swapOps g f) ≤ most
+  unfolding swapOps swapSteps
+  swap-most = omega (arith, copies-count g (swapSteps N) 0 f (swap-row N 0), ap (λ (n : ℕ). n * dearerCost g) (swap-count N 0))
+
+  revert-most : length (revertOps g f ++ finishOps g f) ≤ most
+  unfolding revertOps revertSteps stateUnits
   revert-most =
       omega (
         arith,
         length-append (revertOps g f) (finishOps g f),
         finish-count g f,
-        copies-count g (revertSteps N) f,
+        copies-count g (revertSteps N) (2 * N) f (revert-row N 0 (2 * N)),
         ap
-            (λ (n : ℕ). n * stepCost g) (revert-count N 0 (2 * N)),
+            (λ (n : ℕ). n * dearerCost g) (revert-count N 0 (2 * N)),
       )
 
-  boot-in-most : (s : State) → length (bootOpsIn s g f) ≤ 2 * N * stepCost g + 3
+  boot-in-most : (s : State) → length (bootOpsIn s g f) ≤ most
   unfolding bootOpsIn
   boot-in-most Boot = zero-le
   boot-in-most Swap = pick-count _ (swapOps g f) (revertOps g f ++ finishOps g f) _ swap-most revert-most
   boot-in-most Revert = zero-le
   boot-in-most DfuDetach = zero-le
 
-  -- 2N steps and three operations, whatever the flash holds
-  pub boot-most : length (bootOps g f) ≤ 2 * N * stepCost g + 3
+  -- 2N steps and the end of a revert, whatever the flash holds
+  pub boot-most : length (bootOps g f) ≤ most
   unfolding bootOps
   boot-most = boot-in-most _
 
-  -- a step costs at most three operations a byte of the page, and the pages are within the longest area
+  -- a step costs at most three operations a byte of the page, and the pages and the state's units are within the longest area
   boot-count : prepareBoot g f .refusal ≡ 0 → length (prepareBoot g f .ops) < 4294967296
-  unfolding prepareBoot pageCount pages stepCost mostLength
+  unfolding prepareBoot pageCount pages stepCost dearerCost stateUnits mostLength
   boot-count r =
       let a = admitted g (length (f .active)) (length (f .dfu)) (length (f .state)) r in
       let p : 0 < page g = page-some g (a .numbers) in
       let whole : length (f .active) / page g * page g ≡ length (f .active) =
       even-times (length (f .active)) (page g) (a .active-pages) in
-      let step : stepCost g ≤ 3 * page g = omega (arith, div-le-self (page g) (g .b)) in
-      let all : N * stepCost g ≤ N * (3 * page g) = mul-le-mul-left N step in
-      omega (arith, boot-most, a .active-most)
+      let step : dearerCost g ≤ 3 * page g =
+      omega (
+        arith,
+        div-le-self (page g) (g .b),
+        div-le-self (page g) (unitOf g dfu),
+        div-le-self (page g) (unitOf g active),
+      ) in
+      let all : N * dearerCost g ≤ N * (3 * page g) = mul-le-mul-left N step in
+      omega (arith, boot-most, a .active-most, a .state-most, div-le-self (length (f .state)) (g .es))
 
 -- ---- marks: invalidate, erase, write
 
-marks-most : (es ws m : ℕ) (st : List ℕ) → length (setMagicOps es ws m st) ≤ 3
-unfolding setMagicOps renewOps
+marks-most : (es ws m : ℕ) (st : List ℕ) → length (setMagicOps es ws m st) ≤ 2 + length st
+unfolding setMagicOps
 marks-most es ws m st =
-    pick-count _ [] (pick (valid ws st) (invalidateOp ws ∷ []) [] ++ renewOps es ws (length st) m) 3 zero-le
+    pick-count _ [] (pick (valid ws st) (invalidateOp ws ∷ []) [] ++ renewOps es ws (length st) m) (2 + length st) zero-le
     (omega (
       arith,
       length-append (pick (valid ws st) (invalidateOp ws ∷ []) []) (renewOps es ws (length st) m),
       pick-count (valid ws st)
           (invalidateOp ws ∷ []) [] 1 (omega arith) zero-le,
-      length-append (eraseOps es state 0 (length st))
-          (magicOp ws m ∷ []),
-      erase-count es state 0 (length st),
+      renew-count es ws (length st) m,
+      div-le-self (length st) es,
     ))
+
+state-most : (es ws ls : ℕ) → stateRefusal es ws ls ≡ 0 → ls ≤ mostLength
+unfolding stateRefusal lowest outside
+state-most es ws ls r =
+    let a = any-none _ _ (row-none _ _ _ (lit< tt) r .0) in
+    let b = any-none _ _ (a .1) in
+    length-in _ (any-none _ _ (b .1) .0)
+
+-- what the updater's rows say of the lengths, and of the range
+record Lengths (ld ls : ℕ) (range : Bool) : Type 0 where
+  dfu : ld ≤ mostLength
+  state : ls ≤ mostLength
+  inside : range ≡ false
+
+lengths : (z : Sizes) (ld ls : ℕ) (swap range : Bool) → updaterRefusal z ld ls swap range ≡ 0 → Lengths ld ls range
+unfolding updaterRefusal lowest outside
+lengths z ld ls swap range r =
+    let a = row-none _ _ _ (lit< tt) r in
+    let i = any-none _ _ (a .0) in
+    let j = any-none _ _ (i .1) in
+    let k = any-none _ _ (j .1) in
+    let l = any-none _ _ (k .1) in
+    let m = any-none _ _ (l .1) in
+    record {
+      dfu = length-in _ (m .0);
+      state = length-in _ (any-none _ _ (m .1) .0);
+      inside = updater-admits z ld ls swap range r .1;
+    }
+
+marks-count : (es ws m : ℕ) (st : List ℕ) → length st ≤ mostLength → length (setMagicOps es ws m st) < 4294967296
+unfolding mostLength
+marks-count es ws m st h = omega (arith, marks-most es ws m st)
 
 -- ---- write_firmware: a piece has a byte or more, and takes an erase and a write
 
@@ -130,9 +176,8 @@ writes-most : (ed : ℕ) (m : Sector) (ps : List Piece) → length (piecesOps ed
 unfolding piecesOps
 writes-most ed m [] = zero-le
 writes-most ed m (p ∷ ps) =
-    let first : List Op = pick (remembers m (p .at / ed)) [] (eraseOps ed dfu (p .at / ed * ed) ed) in
-    let one : length first ≤ 1 =
-    pick-count _ [] (eraseOps ed dfu (p .at / ed * ed) ed) 1 zero-le (omega (arith, erase-count ed dfu (p .at / ed * ed) ed)) in
+    let first : List Op = pick (remembers m (p .at / ed)) [] (erase dfu (p .at / ed * ed) ed ∷ []) in
+    let one : length first ≤ 1 = pick-count _ [] (erase dfu (p .at / ed * ed) ed ∷ []) 1 zero-le (omega arith) in
     omega (
       arith,
       length-append first (write dfu (p .at) (p .bytes) ∷ piecesOps ed (At (p .at / ed)) ps),
@@ -156,34 +201,36 @@ range-most wd ld offset n h e = go (eqb n 0) refl e
 
 module _ (z : Sizes) (m : Sector) (offset : ℕ) (bytes : List ℕ) (f : Flash) where
   write-count : writeFirmware z m offset bytes f .refusal ≡ 0 → length (writeFirmware z m offset bytes f .ops) < 4294967296
-  unfolding writeFirmware updaterCall updaterRefusal lowest outside pieces mostLength
+  unfolding writeFirmware updaterCall pieces mostLength
   write-count r =
-      let a = row-none _ _ _ (lit< tt) r in
-      let b = row-none _ _ _ (lit< tt) (a .1) in
-      let c = row-none _ _ _ (lit< tt) (b .1) in
-      let d = row-none _ _ _ (lit< tt) (c .1) in
-      let e = row-none _ _ _ (lit< tt) (d .1) in
-      let range = row-none _ _ _ (lit< tt) (e .1) .0 in
-      let i = any-none _ _ (a .0) in
-      let j = any-none _ _ (i .1) in
-      let k = any-none _ _ (j .1) in
-      let l = any-none _ _ (k .1) in
-      let long = length-in _ (any-none _ _ (l .1) .0) in
-      let few : length bytes ≤ mostLength = range-most (z .wd) (length (f .dfu)) offset (length bytes) long range in
+      let a = lengths z (length (f .dfu)) (length (f .state)) _ _ r in
+      let few : length bytes ≤ mostLength = range-most (z .wd) (length (f .dfu)) offset (length bytes) (a .dfu) (a .inside) in
       omega
       (arith, writes-most (z .ed) m (pieces (z .ed) offset bytes), pieces-most (length bytes) (z .ed) offset bytes, few)
+
+-- ---- prepare_update
+
+prepare-count : (z : Sizes) (f : Flash) → prepareUpdate z f .refusal ≡ 0 → length (prepareUpdate z f .ops) < 4294967296
+unfolding prepareUpdate updaterCall mostLength
+prepare-count z f r =
+    omega (
+      arith,
+      erase-count (z .ed) dfu 0 (length (f .dfu)),
+      div-le-self (length (f .dfu)) (z .ed),
+      lengths z (length (f .dfu)) (length (f .state)) _ _ r .dfu,
+    )
 
 -- ---- every call that does operations
 
 pub every-count : EveryCount
-unfolding mark updaterCall updaterMark updaterMarkUpdated updaterMarkDfu updaterMarkBooted prepareUpdate
+unfolding mark updaterCall updaterMark updaterMarkUpdated updaterMarkDfu updaterMarkBooted
 every-count =
     record {
       boot = boot-count;
-      marks = λ s es ws st r. omega (arith, marks-most es ws (magic s) st);
-      updater-mark-updated = λ z f r. omega (arith, marks-most (z .es) (z .ws) (magic Swap) (f .state));
-      updater-mark-dfu = λ z f r. omega (arith, marks-most (z .es) (z .ws) (magic DfuDetach) (f .state));
-      updater-mark-booted = λ z f r. omega (arith, marks-most (z .es) (z .ws) (magic Boot) (f .state));
+      marks = λ s es ws st r. marks-count es ws (magic s) st (state-most es ws (length st) r);
+      updater-mark-updated = λ z f r. marks-count (z .es) (z .ws) (magic Swap) (f .state) (lengths z _ _ _ _ r .state);
+      updater-mark-dfu = λ z f r. marks-count (z .es) (z .ws) (magic DfuDetach) (f .state) (lengths z _ _ _ _ r .state);
+      updater-mark-booted = λ z f r. marks-count (z .es) (z .ws) (magic Boot) (f .state) (lengths z _ _ _ _ r .state);
       write-firmware = write-count;
-      prepare-update = λ z f r. omega (arith, erase-count (z .ed) dfu 0 (length (f .dfu)));
+      prepare-update = prepare-count;
     }

@@ -1,39 +1,45 @@
--- The three operations that end a revert, on a state area that may hold anything: invalidate, erase the state area, write the
--- magic; the last two are those of every mark. Cited by Reverted, Settled and Marking, and by Counts. Assumes nothing.
+-- The operations that end a revert, on a state area that may hold anything: invalidate, erase the state area unit by unit, write the
+-- magic; all but the first are those of every mark. Cited by Reverted, Settled and Marking, and by Counts. Assumes nothing.
 use mathlib.Core.Path.{_≡_, refl, sym, ap, _∙_}
-use mathlib.Core.List.{List, [], _∷_, _++_, append-nil}
-use Prim.Native.Nat.{ℕ, _+_, _-_, _≤_}
+use mathlib.Core.List.{List, [], _∷_}
+use Prim.Native.Nat.{ℕ, suc, _+_, _-_, _*_, _/_, _≤_}
 use native.Mathlib.Omega.{arith}
-use lib.ListN.{length, replicate, length-replicate, replicate-append-replicate, drop-of-length-le}
+use lib.ListN.{length, take, replicate, length-append, length-replicate, replicate-append-replicate}
 use Rattle.state.specs.declared.State.{State}
 use Rattle.state.specs.declared.State.the-variants.{Revert}
 use Rattle.state.specs.Magic.{erased, marked, magic}
 use Rattle.geometry.specs.declared.Geometry.{Geometry}
-use Rattle.mem_flash.specs.Flash.{state, Flash, Op, erase, writtenAt, change, apply, applyAll, eraseOps}
+use Rattle.mem_flash.specs.Flash.{state, Flash, Op, blank, erasedAt, writtenAt, change, apply, applyAll, eraseOps}
+use Rattle.mem_flash.specs.Run.{placed}
 use Rattle.rules.specs.StateArea.{invalidateOp, magicOp}
 use Rattle.rules.specs.Boot.{renewOps, finishOps}
 use Rattle.rules.specs.Power.{magicArea}
-use Rattle.power.proofs.Bytes.{bytes-replicate, erased-within, written-erased, length-written}
+use Rattle.power.proofs.Bytes.{bytes-replicate, blank-all, written-erased, length-written}
 use Rattle.power.proofs.Words.{magic-byte}
-use Rattle.power.proofs.Areas.{flash-path}
+use Rattle.power.proofs.Areas.{flash-path, apply-append, cut-first}
+use Rattle.power.proofs.Erases.{erase-count, erase-part, erase-whole}
 
 -- the images A and R with the state area st
 unfoldable pub closed : List ℕ → List ℕ → List ℕ → Flash
 closed A R st = record { active = A; dfu = R; state = st }
 
--- the three operations, for a state area of S bytes
+-- the operations, for a state area of S bytes
 unfoldable pub closeOps : Geometry → ℕ → List Op
-closeOps g S = invalidateOp (g .ws) ∷ erase state 0 S ∷ magicOp (g .ws) (magic Revert) ∷ []
+closeOps g S = invalidateOp (g .ws) ∷ renewOps (g .es) (g .ws) S (magic Revert)
 
 pub finish-close : (g : Geometry) (f : Flash) (S : ℕ) → length (f .state) ≡ S → finishOps g f ≡ closeOps g S
-unfolding finishOps renewOps eraseOps closeOps
+unfolding finishOps closeOps
 finish-close g f S e = ap (closeOps g) e
 
-pub close-count : (g : Geometry) (S : ℕ) → length (closeOps g S) ≡ 3
-unfolding closeOps
-close-count g S = refl
+pub renew-count : (es ws n m : ℕ) → length (renewOps es ws n m) ≡ 1 + n / es
+unfolding renewOps
+renew-count es ws n m = length-append (eraseOps es state 0 n) (magicOp ws m ∷ []) ∙ omega (arith, erase-count es state 0 n)
 
-pub finish-count : (g : Geometry) (f : Flash) → length (finishOps g f) ≡ 3
+pub close-count : (g : Geometry) (S : ℕ) → length (closeOps g S) ≡ 2 + S / g .es
+unfolding closeOps
+close-count g S = omega (arith, renew-count (g .es) (g .ws) S (magic Revert))
+
+pub finish-count : (g : Geometry) (f : Flash) → length (finishOps g f) ≡ 2 + length (f .state) / g .es
 finish-count g f = ap length (finish-close g f (length (f .state)) refl) ∙ close-count g (length (f .state))
 
 module _ (A R : List ℕ) where
@@ -42,13 +48,17 @@ module _ (A R : List ℕ) where
   unfolding invalidateOp apply change closed
   invalidated w st = refl
 
-  pub wiped : (n : ℕ) (st : List ℕ) → length st ≡ n → apply (erase state 0 n) (closed A R st) ≡ closed A R (replicate n erased)
-  unfolding apply change closed
-  wiped n st e =
-      flash-path refl refl
-      (erased-within 0 n st (omega arith)
-      ∙ ap (λ (l : List ℕ). replicate n erased ++ l) (drop-of-length-le st {i = 0 + n} (omega arith))
-      ∙ append-nil (replicate n erased))
+  -- the first units of the state area erased, and all of them
+  wiped-part : (es n j : ℕ) (st : List ℕ) → j ≤ n / es
+      → applyAll (take j (eraseOps es state 0 n)) (closed A R st) ≡ closed A R (blank (j * es) st)
+  unfolding placed change closed erasedAt
+  wiped-part es n j st h = erase-part es state 0 n j st (closed A R st) h
+
+  wiped : (es n : ℕ) (st : List ℕ) → n / es * es ≡ n → length st ≡ n
+      → applyAll (eraseOps es state 0 n) (closed A R st) ≡ closed A R (replicate n erased)
+  unfolding placed change closed erasedAt
+  wiped es n st whole e =
+      erase-whole es state 0 n whole st (closed A R st) ∙ ap (closed A R) (blank-all n st e)
 
   pub signed : (s : State) (w n : ℕ) → w ≤ n
       → apply (magicOp w (magic s)) (closed A R (replicate n erased)) ≡ closed A R (magicArea w s n)
@@ -62,16 +72,29 @@ module _ (A R : List ℕ) where
       ∙ written-erased [] (replicate w (magic s)) (replicate r erased) 0 w refl (length-replicate w (magic s))
       (bytes-replicate w (magic s) (magic-byte s)))
 
-  -- the erase and the magic of any state, then all three of a revert
-  pub renewed : (s : State) (es w n : ℕ) (st : List ℕ) → length st ≡ n → w ≤ n
+  -- the erase and the magic of any state, then all operations of a revert's end
+  pub renewed : (s : State) (es w n : ℕ) (st : List ℕ) → n / es * es ≡ n → length st ≡ n → w ≤ n
       → applyAll (renewOps es w n (magic s)) (closed A R st) ≡ closed A R (magicArea w s n)
-  unfolding renewOps eraseOps applyAll
-  renewed s es w n st e h = ap (apply (magicOp w (magic s))) (wiped n st e) ∙ signed s w n h
+  unfolding renewOps applyAll
+  renewed s es w n st whole e h =
+      apply-append (eraseOps es state 0 n) (magicOp w (magic s) ∷ []) (closed A R st)
+      ∙ ap (apply (magicOp w (magic s))) (wiped es n st whole e) ∙ signed s w n h
 
-  pub finished : (g : Geometry) (n : ℕ) (st : List ℕ) → length st ≡ n → g .ws ≤ n
+  pub finished : (g : Geometry) (n : ℕ) (st : List ℕ) → n / g .es * g .es ≡ n → length st ≡ n → g .ws ≤ n
       → applyAll (closeOps g n) (closed A R st) ≡ closed A R (magicArea (g .ws) Revert n)
-  unfolding applyAll closeOps renewOps eraseOps
-  finished g n st e h =
+  unfolding applyAll closeOps
+  finished g n st whole e h =
       ap (applyAll (renewOps (g .es) (g .ws) n (magic Revert))) (invalidated (g .ws) st)
-      ∙ renewed Revert (g .es) (g .ws) n (writtenAt (g .ws) (replicate (g .ws) marked) st)
+      ∙ renewed Revert (g .es) (g .ws) n (writtenAt (g .ws) (replicate (g .ws) marked) st) whole
       (length-written (g .ws) (replicate (g .ws) marked) st ∙ e) h
+
+  -- cut after j units, they hold the first units erased, and the rest invalid but as it was
+  pub close-part : (g : Geometry) (n j : ℕ) (st : List ℕ) → j ≤ n / g .es
+      → applyAll (take (suc j) (closeOps g n)) (closed A R st)
+      ≡ closed A R (blank (j * g .es) (writtenAt (g .ws) (replicate (g .ws) marked) st))
+  unfolding applyAll closeOps renewOps
+  close-part g n j st h =
+      ap (applyAll (take j (renewOps (g .es) (g .ws) n (magic Revert)))) (invalidated (g .ws) st)
+      ∙ cut-first j (eraseOps (g .es) state 0 n) (magicOp (g .ws) (magic Revert) ∷ []) _
+      (omega (arith, erase-count (g .es) state 0 n))
+      ∙ wiped-part (g .es) n j (writtenAt (g .ws) (replicate (g .ws) marked) st) h

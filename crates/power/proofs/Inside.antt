@@ -4,7 +4,7 @@ use mathlib.Core.Path.{_≡_, refl, sym, _∙_, subst}
 use mathlib.Core.Bool.{Bool, true, false}
 use mathlib.Core.List.{List, [], _∷_, _++_}
 use Prim.Native.Nat.{ℕ, zero, suc, _+_, _-_, _*_, _/_, _%_, _≤_, _<_}
-use native.Mathlib.Nat.{zero-mul, one-mul, suc-mul, mul-le-mul-right, dvd-zero, dvd-add, dvd-trans, dvd-mul-left-of-dvd, dvd-of-mod-eq-zero, mod-eq-zero-of-dvd, div-mul-cancel, mod-self}
+use native.Mathlib.Nat.{zero-mul, one-mul, suc-mul, mul-le-mul-right, dvd-zero, dvd-trans, dvd-mul-left-of-dvd, dvd-of-mod-eq-zero, mod-eq-zero-of-dvd, div-mul-cancel, mod-self}
 use native.Mathlib.Omega.{arith}
 use lib.ListN.{length, take, drop, replicate, length-drop, length-replicate}
 use lib.Seq.{length-take-le}
@@ -25,20 +25,13 @@ use Rattle.rules.specs.Steps.{Copy, toDfu, toActive, swapFrom, revertFrom, swap
 use Rattle.rules.specs.Boot.{renewOps, finishOps, bootOpsIn, bootOps, prepareBoot}
 use Rattle.power.specs.Inside.{areaOf, writeUnit, Aligned, Within, AllWithin, none, one, BootsInside}
 use Rattle.power.proofs.Areas.{Image, SameLengths, all-lengths}
-use Rattle.power.proofs.Erases.{erase-within}
+use Rattle.power.proofs.Erases.{even-sum, aligned, erase-within}
 use Rattle.power.proofs.Pages.{pages-le}
 
 -- ---- multiples of a unit
 
-even-sum : (u a b : ℕ) → a % u ≡ 0 → b % u ≡ 0 → (a + b) % u ≡ 0
-even-sum u a b x y = mod-eq-zero-of-dvd u (dvd-add u (dvd-of-mod-eq-zero u x) (dvd-of-mod-eq-zero u y))
-
 even-many : (u b k : ℕ) → b % u ≡ 0 → k * b % u ≡ 0
 even-many u b k x = mod-eq-zero-of-dvd u (dvd-mul-left-of-dvd u (dvd-of-mod-eq-zero u x) k)
-
--- so many bytes, a multiple of the unit, from a multiple on
-aligned : (u from n size : ℕ) → from % u ≡ 0 → n % u ≡ 0 → from + n ≤ size → Aligned u from n size
-aligned u from n size x y h = record { starts = x; ends = even-sum u from n x y; inside = h }
 
 within-append : {g : Geometry} {f : Flash} {os ps : List Op} → AllWithin g f os → AllWithin g f ps → AllWithin g f (os ++ ps)
 within-append none y = y
@@ -106,8 +99,7 @@ module _ (g : Geometry) (f : Flash) (ad : Admitted g (length (f .active)) (lengt
       let whole : page g / g .b * g .b ≡ page g = even-times (page g) (g .b) (ad .page-b) in
       within-append
       (within-append
-      (erase-within (unitOf g (c .to)) (c .to) (c .target * page g) (page g) g f refl
-      (aligned _ _ _ _ (even-many _ (page g) (c .target) (u .0)) (u .0) (at .target)))
+      (erase-within g f (c .to) (c .target * page g) (page g) (even-many _ (page g) (c .target) (u .0)) (at .target))
       (chunks-within g f (page g / g .b) (c .to) (c .target * page g) (c .source * page g) (g .b) (sourceOf (c .to) h)
       (even-many _ (page g) (c .target) (u .1)) (u .2) (omega (arith, whole, at .target))
       (omega (arith, whole, at .source, source-length (c .to) h f l))))
@@ -207,9 +199,7 @@ module _ (g : Geometry) (f : Flash) (ad : Admitted g (length (f .active)) (lengt
       (word-within 0 (magic Revert) (word-there 0 (omega arith))) in
       one void
       (within-append
-      (erase-within (g .es) state 0 (length (f .state)) g f refl
-      (aligned (g .es) 0 (length (f .state)) (length (f .state)) (mod-eq-zero-of-dvd (g .es) (dvd-zero (g .es))) (ad .state-units)
-      (omega arith)))
+      (erase-within g f state 0 (length (f .state)) (mod-eq-zero-of-dvd (g .es) (dvd-zero (g .es))) (omega arith))
       (one sign none))
 
   same : SameLengths f f

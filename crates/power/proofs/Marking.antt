@@ -2,7 +2,7 @@
 use mathlib.Core.Path.{_≡_, refl, sym, ap, _∙_}
 use mathlib.Core.Bool.{Bool, true, false}
 use mathlib.Core.List.{List, [], _∷_, _++_}
-use Prim.Native.Nat.{ℕ, _+_, _/_, _≤_, _<_}
+use Prim.Native.Nat.{ℕ, _+_, _*_, _/_, _≤_, _<_}
 use native.Mathlib.Nat.{mul-le-mul-right, div-mul-le-self}
 use native.Mathlib.Omega.{arith}
 use lib.Dec.{lit<}
@@ -15,7 +15,7 @@ use Rattle.state.specs.Magic.{marked, magic, throughout}
 use Rattle.geometry.specs.declared.Geometry.{Geometry}
 use Rattle.geometry.specs.Geometry.{words}
 use Rattle.geometry.specs.Refusals.{lowest, badState, otherWords, stateRefusal}
-use Rattle.geometry.proofs.Tests.{any-none, row-none}
+use Rattle.geometry.proofs.Tests.{any-none, row-none, even, even-times}
 use Rattle.mem_flash.specs.Flash.{Flash, Op, writtenAt, applyAll, after}
 use Rattle.rules.specs.StateArea.{word, valid, invalidateOp}
 use Rattle.rules.specs.Calls.{Call, left}
@@ -29,8 +29,8 @@ use Rattle.power.proofs.Areas.{after-all, after-none, all-lengths}
 use Rattle.power.proofs.Finish.{closed, invalidated, renewed}
 use Rattle.power.proofs.Cuts.{Ending, refused, done, cut, ending, left-refused, left-admitted, state-rows, is-done}
 
--- an admitted state area has a word, whatever it holds
-state-word : (es ws ls : ℕ) → stateRefusal es ws ls ≡ 0 → ws ≤ ls
+-- an admitted state area has a word, and whole erase units, whatever it holds
+state-word : (es ws ls : ℕ) → stateRefusal es ws ls ≡ 0 → (ws ≤ ls) × (ls / es * es ≡ ls)
 unfolding stateRefusal lowest badState otherWords words
 state-word es ws ls r =
     let a = row-none _ _ _ (lit< tt) r in
@@ -39,7 +39,7 @@ state-word es ws ls r =
     let d = row-none _ _ _ (lit< tt) (c .1) in
     let e = any-none _ _ (any-none _ _ (d .0) .1) in
     let two : 2 ≤ ls / ws = ltb-false (ls / ws) 2 (any-none _ _ (e .1) .0) in
-    omega (arith, mul-le-mul-right {m = 2} {n = ls / ws} ws two, div-mul-le-self ls ws)
+    (omega (arith, mul-le-mul-right {m = 2} {n = ls / ws} ws two, div-mul-le-self ls ws), even-times ls es (even ls es (e .0)))
 
 -- a call without operations leaves the flash, and every call leaves the state area's length
 idle : (c : Call) (k : ℕ) (f : Flash) → c .ops ≡ [] → Ending c k → left c k f ≡ f
@@ -60,15 +60,15 @@ module _ (s : State) (es ws : ℕ) (f : Flash) where
   st = f .state
 
   -- the invalidation, if the progress is valid, and then the renewal
-  marked-state : (b : Bool) → ws ≤ length st
+  marked-state : (b : Bool) → (ws ≤ length st) × (length st / es * es ≡ length st)
       → applyAll (pick b (invalidateOp ws ∷ []) [] ++ renewOps es ws (length st) (magic s)) f
       ≡ restated (magicArea ws s (length st)) f
   unfolding pick applyAll closed
   marked-state true fit =
       ap (applyAll (renewOps es ws (length st) (magic s))) (invalidated (f .active) (f .dfu) ws st)
-      ∙ renewed (f .active) (f .dfu) s es ws (length st) (writtenAt ws (replicate ws marked) st)
-      (length-written ws (replicate ws marked) st) fit
-  marked-state false fit = renewed (f .active) (f .dfu) s es ws (length st) st refl fit
+      ∙ renewed (f .active) (f .dfu) s es ws (length st) (writtenAt ws (replicate ws marked) st) (fit .1)
+      (length-written ws (replicate ws marked) st) (fit .0)
+  marked-state false fit = renewed (f .active) (f .dfu) s es ws (length st) st (fit .1) refl (fit .0)
 
   abbrev call : Call
   call = mark s es ws st

@@ -1,27 +1,30 @@
--- The revert, cut anywhere, and the three operations that end it: invalidate, erase the state area, write the magic. The one-run
--- lemmas that Runs asks for, from a flash where steps are left, or the marks are void, or the state area is erased. Cited by
--- Proved. Assumes nothing.
+-- The revert, cut anywhere, and the operations that end it: invalidate, erase the state area unit by unit, write the magic. The
+-- one-run lemmas that Runs asks for, from a flash where steps are left, or the marks are void, or units of the state area are
+-- erased. Cited by Proved. Assumes nothing.
 use mathlib.Core.Path.{_≡_, refl, sym, ap, ap₂, _∙_, subst}
 use mathlib.Core.Logic.{_⊎_, inl, inr}
-use mathlib.Core.List.{List, [], _∷_, _++_}
+use mathlib.Core.List.{List, [], _∷_, _++_, append-assoc}
 use Prim.Native.Nat.{ℕ, zero, suc, _+_, _-_, _*_, _/_, _≤_, _<_, zero-le}
-use native.Mathlib.Nat.{mul-div-cancel, not-le-of-lt, lt-of-not-le}
+use native.Mathlib.Nat.{zero-mul, mul-le-mul-right, mul-div-cancel, not-le-of-lt, lt-of-not-le}
 use native.Mathlib.Decide.{decLe}
 use native.Mathlib.Omega.{arith}
-use lib.ListN.{length, take, replicate, length-append, length-replicate, getD-replicate}
+use lib.ListN.{length, take, drop, replicate, length-append, length-replicate, replicate-append-replicate}
+use lib.Seq.{take-at}
 use Rattle.state.specs.declared.State.{State}
 use Rattle.state.specs.declared.State.the-variants.{Boot, Swap, Revert}
 use Rattle.state.specs.Magic.{erased, marked, stateOf}
 use Rattle.geometry.specs.declared.Geometry.{Geometry}
 use Rattle.geometry.specs.Geometry.{page, pages}
-use Rattle.mem_flash.specs.Flash.{state, Flash, Op, erase, apply, applyAll, after}
-use Rattle.rules.specs.StateArea.{word, readState, progress, invalidateOp}
+use Rattle.mem_flash.specs.Flash.{Flash, Op, blank, applyAll, after}
+use Rattle.rules.specs.StateArea.{word, readState, progress}
 use Rattle.rules.specs.Steps.{Copy, toDfu, toActive, revertFrom, copiesOps, pageCount}
 use Rattle.rules.specs.Boot.{bootOpsIn, bootOps}
-use Rattle.rules.specs.Power.{magicArea, stepCost}
-use Rattle.power.proofs.Words.{spread, marks, spread-replicate, length-spread, length-marks, word-spread, reads-swap, progress-void, erased-reads-boot, void-written}
+use Rattle.rules.specs.Power.{magicArea, nextCost}
+use Rattle.power.proofs.Bytes.{blank-is}
+use Rattle.power.proofs.Words.{spread, marks, length-spread, length-marks, reads-swap, progress-void, erased-reads-boot, void-written}
 use Rattle.power.proofs.Areas.{apply-append, cut-first, cut-past, after-all}
-use Rattle.power.proofs.Finish.{closed, closeOps, close-count, finish-close, invalidated, wiped, finished}
+use Rattle.power.proofs.Finish.{closed, closeOps, close-count, finish-close, finished, close-part}
+use Rattle.power.proofs.Steps.{Whole}
 use Rattle.power.proofs.Way.{Reads, Way, On, Found, on-found, on-end, Outcome, through, stopped, run-on, copies-skip}
 use Rattle.power.proofs.Tables.{revert-count}
 use Rattle.power.proofs.Runs.{Kept}
@@ -44,75 +47,78 @@ unfoldable pub closing : Geometry → List ℕ → List ℕ → ℕ → ℕ → 
 closing g A R t n v = closed A R (spread (g .ws) (marks v n (t - n)))
 
 module _ (g : Geometry) (A R : List ℕ) (t n : ℕ) (h : n < t) where
-  voids : (v : ℕ) → apply (invalidateOp (g .ws)) (closing g A R t n v) ≡ closing g A R t n marked
-  unfolding closing
-  voids v = invalidated A R (g .ws) (spread (g .ws) (marks v n (t - n))) ∙ ap (closed A R) (void-written (g .ws) v n (t - n))
-
   state-size : (v : ℕ) → length (spread (g .ws) (marks v n (t - n))) ≡ (2 + t) * g .ws
   state-size v =
       let e : length (marks v n (t - n)) ≡ 2 + t = omega (arith, length-marks v n (t - n)) in
       length-spread (g .ws) (marks v n (t - n)) ∙ ap (λ (z : ℕ). z * g .ws) e
 
--- an erased state area reads Boot, and nothing is wanted
-reads-boot : (w t : ℕ) → 0 < w → readState w (replicate ((2 + t) * w) erased) ≡ Boot
-unfolding readState
-reads-boot w t some =
+-- a state area whose first word is erased reads Boot
+blank-boot : (w n : ℕ) (st : List ℕ) → 0 < w → w ≤ n → n ≤ length st → readState w (blank n st) ≡ Boot
+unfolding readState word
+blank-boot w n st some more fit =
+    let r : ℕ = n - w in
+    let e : n ≡ w + r = omega arith in
     ap stateOf
-    (ap (word w 0) (sym (spread-replicate w (2 + t) erased))
-    ∙ word-spread w 0 (replicate (2 + t) erased) (omega (arith, length-replicate (2 + t) erased))
-    ∙ ap (replicate w) (getD-replicate (2 + t) 0 erased 0 (omega arith)))
+    (ap₂ (λ (i : ℕ) (xs : List ℕ). take w (drop i xs)) (zero-mul w)
+    (blank-is n st fit
+    ∙ ap (λ (l : List ℕ). l ++ drop n st)
+    (ap (λ (z : ℕ). replicate z erased) e ∙ sym (replicate-append-replicate w r erased))
+    ∙ append-assoc (replicate w erased) (replicate r erased) (drop n st))
+    ∙ take-at (replicate w erased) (replicate r erased ++ drop n st) w (length-replicate w erased))
     ∙ erased-reads-boot w some
 
-pub closed-boot : (g : Geometry) (A R : List ℕ) (t : ℕ) → 0 < g .ws
-    → readState (g .ws) (closed A R (replicate ((2 + t) * g .ws) erased) .state) ≡ Boot
-unfolding closed
-closed-boot g A R t ws = reads-boot (g .ws) t ws
-
-pub boot-idle : (g : Geometry) (A R : List ℕ) (t : ℕ) → 0 < g .ws
-    → bootOps g (closed A R (replicate ((2 + t) * g .ws) erased)) ≡ []
-unfolding bootOps bootOpsIn closed
-boot-idle g A R t ws =
-    ap (λ (s : State). bootOpsIn s g (closed A R (replicate ((2 + t) * g .ws) erased))) (reads-boot (g .ws) t ws)
+no-swap : Boot ≡ Swap → ⊥
+no-swap e = let z : _≡_ {A = ℕ} 0 1 = cc in omega arith
 
 -- ---- a revert that is cut
 
--- steps are left; or the marks are void; or the state area is erased
-pub data Reverting (g : Geometry) (N S : ℕ) (h void gone now : Flash) : ℕ → Type 0 where
-  copying : {rest : ℕ} → On g N S h now (2 * N) (revertFrom N 0 (2 * N)) rest → Reverting g N S h void gone now rest
-  voided : now ≡ void → Reverting g N S h void gone now 0
-  emptied : now ≡ gone → Reverting g N S h void gone now 0
+-- steps are left, and the end after them; or the marks are void, and the end is left; or some of the state's U units are erased, and
+-- nothing is left
+pub data Reverting (g : Geometry) (N S : ℕ) (h void : Flash) (U : ℕ) (gone : ℕ → Flash) (now : Flash) : ℕ → Type 0 where
+  copying : {rest : ℕ} → On g N S h now (2 * N) (revertFrom N 0 (2 * N)) rest → Reverting g N S h void U gone now (suc rest)
+  voided : now ≡ void → Reverting g N S h void U gone now 1
+  emptied : (j : ℕ) → 1 ≤ j → j ≤ U → now ≡ gone j → Reverting g N S h void U gone now 0
 
--- the flash x after a cut: the state area is erased just if the cut fell there, and else it reads Swap
-abbrev pub Place : Geometry → Flash → Type 0 → Flash → Type 0
-Place g gone there x = (there × (x ≡ gone)) ⊎ ((there → ⊥) × (readState (g .ws) (x .state) ≡ Swap))
+-- the flash x after a cut: units are erased just if the cut fell there, with r operations left, and else it reads Swap
+abbrev pub Place : Geometry → ℕ → (ℕ → Flash) → (ℕ → Type 0) → Flash → Type 0
+Place g U gone There x =
+    ((r : ℕ) × (1 ≤ r) × (r ≤ U) × There r × (x ≡ gone (U + 1 - r)))
+    ⊎ (((r : ℕ) → 1 ≤ r → r ≤ U → There r → ⊥) × (readState (g .ws) (x .state) ≡ Swap))
 
-place-map : (g : Geometry) (gone x : Flash) (P Q : Type 0) → (P → Q) → (Q → P) → Place g gone P x → Place g gone Q x
-place-map g gone x P Q to from (inl e) = inl (to (e .0), e .1)
-place-map g gone x P Q to from (inr e) = inr (λ q. e .0 (from q), e .1)
-
--- what a run of the operations os with a budget of k leaves: it ends; or nothing is wanted; or it is cut, and the state area is
--- erased just if one operation was left to do
-data Reverts (g : Geometry) (N S : ℕ) (h void gone done now : Flash) (rest k : ℕ) (os : List Op) : Type 0 where
-  ends : length os ≤ k → applyAll os now ≡ done → readState (g .ws) (now .state) ≡ Swap → (k < stepCost g → rest ≡ 0)
-      → Reverts g N S h void gone done now rest k os
-  idle : now ≡ gone → os ≡ [] → rest ≡ 0 → Reverts g N S h void gone done now rest k os
-  cut : (l : ℕ) → k < length os → l ≤ rest → (stepCost g ≤ k → l < rest) → (k < stepCost g → l ≡ rest)
-      → Reverting g N S h void gone (applyAll (take k os) now) l → Place g gone (k + 1 ≡ length os) (applyAll (take k os) now)
-      → Reverts g N S h void gone done now rest k os
+-- what a run of the operations os with a budget of k leaves, where m steps and the end were left: it ends; or nothing is wanted; or
+-- it is cut
+data Reverts (g : Geometry) (N S : ℕ) (h void : Flash) (U : ℕ) (gone : ℕ → Flash) (done now : Flash) (m k : ℕ)
+    (os : List Op) : Type 0 where
+  ends : length os ≤ k → applyAll os now ≡ done → readState (g .ws) (now .state) ≡ Swap
+      → Reverts g N S h void U gone done now m k os
+  idle : (j : ℕ) → 1 ≤ j → j ≤ U → now ≡ gone j → os ≡ [] → Reverts g N S h void U gone done now m k os
+  cut : (l : ℕ) → k < length os → (nextCost g now ≤ k → l < m)
+      → Reverting g N S h void U gone (applyAll (take k os) now) l
+      → Place g U gone (λ (r : ℕ). k + r ≡ length os) (applyAll (take k os) now)
+      → Reverts g N S h void U gone done now m k os
 
 -- N pages, whose way back from f₀ ends with the images A and R and 4N marks of t
 pub record Course (g : Geometry) (N t : ℕ) (A R : List ℕ) (f₀ : Flash) : Type 0 where
-  pub whole : page g / g .b * g .b ≡ page g
-  pub cost : 3 ≤ stepCost g
+  pub whole : Whole g
+  pub cost : (x : Flash) → 3 ≤ nextCost g x
   pub ws : 0 < g .ws
+  pub unit : g .ws ≤ g .es
+  pub units : (2 + t) * g .ws / g .es * g .es ≡ (2 + t) * g .ws
   pub page-some : 0 < page g
   pub room : 4 * N < t
   pub active : length A ≡ N * page g
   pub way : Way g N ((2 + t) * g .ws) (2 * N) f₀ (revertFrom N 0 (2 * N)) (closing g A R t (4 * N) erased)
 
+-- the state area's first j units erased, once the marks are void
+unfoldable pub part : Geometry → List ℕ → List ℕ → ℕ → ℕ → ℕ → Flash
+part g A R t n j = closed A R (blank (j * g .es) (spread (g .ws) (marks marked n (t - n))))
+
 module _ {g : Geometry} {N t : ℕ} {A R : List ℕ} {f₀ : Flash} (course : Course g N t A R f₀) where
   abbrev S : ℕ
   S = (2 + t) * g .ws
+
+  abbrev U : ℕ
+  U = S / g .es
 
   abbrev h : Flash
   h = closing g A R t (4 * N) erased
@@ -120,63 +126,78 @@ module _ {g : Geometry} {N t : ℕ} {A R : List ℕ} {f₀ : Flash} (course : Co
   abbrev void : Flash
   void = closing g A R t (4 * N) marked
 
-  abbrev gone : Flash
-  gone = closed A R (replicate S erased)
+  abbrev gone : ℕ → Flash
+  gone = part g A R t (4 * N)
 
   abbrev done : Flash
   done = closed A R (magicArea (g .ws) Revert S)
 
   abbrev pub Turning : Flash → ℕ → Type 0
-  Turning now rest = Reverting g N S h void gone now rest
+  Turning now m = Reverting g N S h void U gone now m
 
   abbrev Turned : Flash → ℕ → ℕ → List Op → Type 0
-  Turned now rest k os = Reverts g N S h void gone done now rest k os
+  Turned now m k os = Reverts g N S h void U gone done now m k os
 
-  -- the last three operations, from a validity word that holds v: cut, and whole
-  close-erased : (v : ℕ) → apply (erase state 0 S) (apply (invalidateOp (g .ws)) (closing g A R t (4 * N) v)) ≡ gone
-  unfolding closing
-  close-erased v =
-      ap (apply (erase state 0 S)) (voids g A R t (4 * N) (course .room) v)
-      ∙ wiped A R S (spread (g .ws) (marks marked (4 * N) (t - 4 * N))) (state-size g A R t (4 * N) (course .room) marked)
+  -- with a unit erased the state area reads Boot, and nothing is wanted
+  module _ (j : ℕ) (some : 1 ≤ j) (most : j ≤ U) where
+    pub gone-boot : readState (g .ws) (gone j .state) ≡ Boot
+    unfolding part closed
+    gone-boot =
+        blank-boot (g .ws) (j * g .es) (spread (g .ws) (marks marked (4 * N) (t - 4 * N))) (course .ws)
+        (omega (arith, mul-le-mul-right (g .es) some, course .unit))
+        (omega (arith, mul-le-mul-right (g .es) most, course .units, state-size g A R t (4 * N) (course .room) marked))
 
-  close-cut : (v : ℕ) → Turning (closing g A R t (4 * N) v) 0 → (j : ℕ) → j < 3
-      → Turning (applyAll (take j (closeOps g S)) (closing g A R t (4 * N) v)) 0
-  unfolding applyAll closeOps closing
-  close-cut v on zero less = on
-  close-cut v on (suc zero) less = voided (voids g A R t (4 * N) (course .room) v)
-  close-cut v on (suc (suc zero)) less = emptied (close-erased v)
-  close-cut v on (suc (suc (suc j))) less = absurd (omega arith)
+    pub gone-idle : bootOps g (gone j) ≡ []
+    unfolding bootOps bootOpsIn
+    gone-idle = ap (λ (s : State). bootOpsIn s g (gone j)) gone-boot
+
+  not-gone : (x : Flash) (j : ℕ) → 1 ≤ j → j ≤ U → x ≡ gone j → readState (g .ws) (x .state) ≡ Swap → ⊥
+  not-gone x j one most e swap =
+      no-swap (sym (gone-boot j one most) ∙ sym (ap (λ (y : Flash). readState (g .ws) (y .state)) e) ∙ swap)
+
+  -- the last operations, from a validity word that holds v: cut after the invalidation and j units, and whole
+  close-gone : (v j : ℕ) → j ≤ U → applyAll (take (suc j) (closeOps g S)) (closing g A R t (4 * N) v) ≡ gone j
+  unfolding closing part
+  close-gone v j less =
+      close-part A R g S j (spread (g .ws) (marks v (4 * N) (t - 4 * N))) less
+      ∙ ap (λ (l : List ℕ). closed A R (blank (j * g .es) l)) (void-written (g .ws) v (4 * N) (t - 4 * N))
+
+  gone-none : gone 0 ≡ void
+  unfolding closing part blank
+  gone-none = ap (λ (n : ℕ). closed A R (blank n (spread (g .ws) (marks marked (4 * N) (t - 4 * N))))) (zero-mul (g .es))
 
   closing-swap : (v : ℕ) → readState (g .ws) (closing g A R t (4 * N) v .state) ≡ Swap
   unfolding closing closed
   closing-swap v = reads-swap (g .ws) (course .ws) v (4 * N) (t - 4 * N) (omega (arith, course .room))
 
-  close-place : (v j : ℕ) → j < 3 → Place g gone (j + 1 ≡ 3) (applyAll (take j (closeOps g S)) (closing g A R t (4 * N) v))
-  unfolding applyAll closeOps closing
-  close-place v zero less = inr (λ e. omega arith, closing-swap v)
-  close-place v (suc zero) less =
-      inr (
-        λ e. omega arith,
-        ap (λ (x : Flash). readState (g .ws) (x .state)) (voids g A R t (4 * N) (course .room) v)
-            ∙ closing-swap marked,
-      )
-  close-place v (suc (suc zero)) less = inl (refl, close-erased v)
-  close-place v (suc (suc (suc j))) less = absurd (omega arith)
-
   close-all : (v : ℕ) → applyAll (closeOps g S) (closing g A R t (4 * N) v) ≡ done
   unfolding closing
   close-all v =
-      finished A R g S (spread (g .ws) (marks v (4 * N) (t - 4 * N))) (state-size g A R t (4 * N) (course .room) v) (omega arith)
+      finished A R g S (spread (g .ws) (marks v (4 * N) (t - 4 * N))) (course .units)
+      (state-size g A R t (4 * N) (course .room) v) (omega arith)
 
-  -- the steps that were left, then the last three operations
-  tail-run : (v : ℕ) → Turning (closing g A R t (4 * N) v) 0 → (now : Flash) (rest k : ℕ) (os : List Op) → length os ≤ k
-      → applyAll os now ≡ closing g A R t (4 * N) v → readState (g .ws) (now .state) ≡ Swap
-      → (stepCost g ≤ k → k < length os + 3 → 0 < rest) → (k < stepCost g → rest ≡ 0) → Turned now rest k (os ++ closeOps g S)
-  unfolding closeOps
-  tail-run v on now rest k os l d swap some none = go (decLe (length os + 3) k)
+  -- where the last operations are cut after the first j: before the erase, or after i units of it
+  data Stop (j : ℕ) (x : Flash) : Type 0 where
+    early : j < 2 → Turning x 1 → readState (g .ws) (x .state) ≡ Swap → Stop j x
+    late : (i : ℕ) → j ≡ suc i → 1 ≤ i → i ≤ U → x ≡ gone i → Stop j x
+
+  close-cut : (v : ℕ) → Turning (closing g A R t (4 * N) v) 1 → (j : ℕ) → j < 2 + U
+      → Stop j (applyAll (take j (closeOps g S)) (closing g A R t (4 * N) v))
+  unfolding applyAll
+  close-cut v on zero less = early (omega arith) on (closing-swap v)
+  close-cut v on (suc zero) less =
+      let e : applyAll (take 1 (closeOps g S)) (closing g A R t (4 * N) v) ≡ void = close-gone v 0 (omega arith) ∙ gone-none in
+      early (omega arith) (voided e) (ap (λ (x : Flash). readState (g .ws) (x .state)) e ∙ closing-swap marked)
+  close-cut v on (suc (suc i)) less = late (suc i) refl (omega arith) (omega arith) (close-gone v (suc i) (omega arith))
+
+  -- the steps that were left, then the last operations
+  tail-run : (v : ℕ) → Turning (closing g A R t (4 * N) v) 1 → (now : Flash) (m k : ℕ) (os : List Op) → length os ≤ k
+      → applyAll os now ≡ closing g A R t (4 * N) v → readState (g .ws) (now .state) ≡ Swap → 0 < m
+      → (nextCost g now ≤ k → k < length os + 2 → 1 < m) → Turned now m k (os ++ closeOps g S)
+  tail-run v on now m k os l d swap more some = go (decLe (length os + (2 + U)) k)
     where
-      size : length (os ++ closeOps g S) ≡ length os + 3
-      size = length-append os (closeOps g S)
+      size : length (os ++ closeOps g S) ≡ length os + (2 + U)
+      size = length-append os (closeOps g S) ∙ ap (λ (n : ℕ). length os + n) (close-count g S)
 
       j : ℕ
       j = k - length os
@@ -184,18 +205,31 @@ module _ {g : Geometry} {N t : ℕ} {A R : List ℕ} {f₀ : Flash} (course : Co
       e : length os + j ≡ k
       e = omega (arith, l)
 
-      go : Dec (length os + 3 ≤ k) → Turned now rest k (os ++ closeOps g S)
-      go (yes y) =
-          ends (omega (arith, size)) (apply-append os (closeOps g S) now ∙ ap (applyAll (closeOps g S)) d ∙ close-all v) swap none
-      go (no y) =
-          let short : k < length os + 3 = lt-of-not-le y in
-          let at : applyAll (take k (os ++ closeOps g S)) now ≡ applyAll (take j (closeOps g S)) (closing g A R t (4 * N) v) =
+      at : applyAll (take k (os ++ closeOps g S)) now ≡ applyAll (take j (closeOps g S)) (closing g A R t (4 * N) v)
+      at =
           ap (λ (z : ℕ). applyAll (take z (os ++ closeOps g S)) now) (sym e) ∙ cut-past j os (closeOps g S) now
-          ∙ ap (applyAll (take j (closeOps g S))) d in
-          cut 0 (omega (arith, size)) zero-le (λ x. some x short) (λ x. sym (none x))
-          (subst (λ (x : Flash). Turning x 0) (sym at) (close-cut v on j (omega arith)))
-          (subst (λ (x : Flash). Place g gone (k + 1 ≡ length (os ++ closeOps g S)) x) (sym at)
-          (place-map g gone _ _ _ (λ q. omega (arith, size, e)) (λ q. omega (arith, size, e)) (close-place v j (omega arith))))
+          ∙ ap (applyAll (take j (closeOps g S))) d
+
+      -- in a clause of its own, for the flash where it stops
+      stop : (x : Flash) → x ≡ applyAll (take k (os ++ closeOps g S)) now → k < length os + (2 + U) → Stop j x
+          → Turned now m k (os ++ closeOps g S)
+      stop x same short (early few on′ reads) =
+          cut 1 (omega (arith, size)) (λ c. some c (omega (arith, e))) (subst (λ (y : Flash). Turning y 1) same on′)
+          (inr (
+            λ r one most q. omega (arith, size, e),
+            ap (λ (y : Flash). readState (g .ws) (y .state)) (sym same) ∙ reads,
+          ))
+      stop x same short (late i is one most there) =
+          let r : ℕ = U + 1 - i in
+          let back : i ≡ U + 1 - r = omega arith in
+          cut 0 (omega (arith, size)) (λ c. more) (emptied i one most (sym same ∙ there))
+          (inl (r, omega arith, omega arith, omega (arith, size, e, is), sym same ∙ there ∙ ap gone back))
+
+      go : Dec (length os + (2 + U) ≤ k) → Turned now m k (os ++ closeOps g S)
+      go (yes y) =
+          ends (omega (arith, size)) (apply-append os (closeOps g S) now ∙ ap (applyAll (closeOps g S)) d ∙ close-all v) swap
+      go (no y) =
+          stop _ (sym at) (lt-of-not-le y) (close-cut v on j (omega (arith, e, lt-of-not-le y)))
 
   void-reads : Reads g N S (2 + (4 * N + (t - 4 * N)) - 3) void
   unfolding closing closed pageCount pages
@@ -207,109 +241,178 @@ module _ {g : Geometry} {N t : ℕ} {A R : List ℕ} {f₀ : Flash} (course : Co
         done = progress-void (g .ws) (course .ws) (4 * N) (t - 4 * N) (omega (arith, course .room));
       }
 
-  void-run : (k : ℕ) → Turned void 0 k (bootOps g void)
+  void-wants : bootOps g void ≡ closeOps g S
+  void-wants =
+      boot-reverts g N S (2 + (4 * N + (t - 4 * N)) - 3) void void-reads (omega arith)
+      ∙ ap₂ (λ (l r : List Op). l ++ r) (copies-none g void N 0 (2 * N) (omega (arith, void-reads .done)))
+      (finish-close g void S (void-reads .sized))
+
+  void-run : (k : ℕ) → Turned void 1 k (bootOps g void)
   unfolding applyAll
   void-run k =
-      subst (λ (os : List Op). Turned void 0 k os) (sym wants)
-      (tail-run marked (voided refl) void 0 k [] zero-le refl (void-reads .swap) (λ x y. absurd (omega arith)) (λ x. refl))
-    where
-      wants : bootOps g void ≡ [] ++ closeOps g S
-      wants =
-          boot-reverts g N S (2 + (4 * N + (t - 4 * N)) - 3) void void-reads (omega arith)
-          ∙ ap₂ (λ (l r : List Op). l ++ r) (copies-none g void N 0 (2 * N) (omega (arith, void-reads .done)))
-          (finish-close g void S (void-reads .sized))
+      subst (λ (os : List Op). Turned void 1 k os) (sym void-wants)
+      (tail-run marked (voided refl) void 1 k [] zero-le refl (void-reads .swap) (omega arith)
+      (λ x y. absurd (omega (arith, course .cost void))))
 
-  copy-run : (now : Flash) (rest : ℕ) → On g N S h now (2 * N) (revertFrom N 0 (2 * N)) rest → (k : ℕ)
-      → Turned now rest k (bootOps g now)
-  copy-run now rest on k =
-      subst (λ (os : List Op). Turned now rest k os) (sym wants) (go (run-on g (course .whole) N S h now on k))
-    where
-      cs : List Copy
-      cs = revertFrom N 0 (2 * N)
+  -- ---- steps are left
 
-      os : List Op
-      os = copiesOps g cs now
+  module _ (now : Flash) (rest : ℕ) (on : On g N S h now (2 * N) (revertFrom N 0 (2 * N)) rest) where
+    abbrev cs : List Copy
+    cs = revertFrom N 0 (2 * N)
 
-      r : Found g N S now (2 * N) (length cs) rest
-      r = on-found g N S h now on
+    abbrev steps : List Op
+    steps = copiesOps g cs now
 
-      wants : bootOps g now ≡ os ++ closeOps g S
-      wants =
-          boot-reverts g N S (r .at) now (r .reads) (r .past)
-          ∙ ap (λ (l : List Op). os ++ l) (finish-close g now S (r .reads .sized))
+    found : Found g N S now (2 * N) (length cs) rest
+    found = on-found g N S h now on
 
-      -- where no step is left, none is wanted
-      some : stepCost g ≤ k → k < length os + 3 → Dec (1 ≤ rest) → 0 < rest
-      some x y (yes z) = z
-      some x y (no z) =
-          let w : os ≡ [] =
-          copies-none g now N 0 (2 * N) (omega (arith, r .sum, r .reads .done, revert-count N 0 (2 * N), lt-of-not-le z)) in
-          absurd (omega (arith, ap length w))
+    copy-wants : bootOps g now ≡ steps ++ closeOps g S
+    copy-wants =
+        boot-reverts g N S (found .at) now (found .reads) (found .past)
+        ∙ ap (λ (l : List Op). steps ++ l) (finish-close g now S (found .reads .sized))
 
-      go : Outcome g N S h (2 * N) cs rest now k os → Turned now rest k (os ++ closeOps g S)
-      go (through l d none) =
-          tail-run erased (copying (on-end g N S h cs (2 * N) f₀ (course .way))) now rest k os l d (r .reads .swap)
-          (λ x y. some x y (decLe 1 rest)) none
-      go (stopped l c z b gain still o) =
-          let at : applyAll (take k (os ++ closeOps g S)) now ≡ applyAll (take k os) now =
-          cut-first k os (closeOps g S) now (omega (arith, c)) in
-          cut l (omega (arith, length-append os (closeOps g S))) b gain still
-          (copying (subst (λ (x : Flash). On g N S h x (2 * N) cs l) (sym at) o))
-          (inr (
-            λ q. omega (arith, c, q, length-append os (closeOps g S), close-count g S),
-            ap (λ (x : Flash). readState (g .ws) (x .state)) at
-                ∙ on-found g N S h (applyAll (take k os) now) o .reads .swap,
-          ))
+    -- where no step is left, none is wanted
+    none-left : rest ≡ 0 → steps ≡ []
+    none-left e =
+        copies-none g now N 0 (2 * N) (omega (arith, found .sum, found .reads .done, revert-count N 0 (2 * N)))
 
-  revert-run : (now : Flash) (rest : ℕ) → Turning now rest → (k : ℕ) → Turned now rest k (bootOps g now)
-  revert-run now rest (copying on) k = copy-run now rest on k
-  revert-run now rest (voided e) k = subst (λ (x : Flash). Turned x 0 k (bootOps g x)) (sym e) (void-run k)
-  revert-run now rest (emptied e) k = idle e (ap (bootOps g) e ∙ boot-idle g A R t (course .ws)) refl
+    copy-run : (k : ℕ) → Turned now (suc rest) k (bootOps g now)
+    copy-run k =
+        subst (λ (os : List Op). Turned now (suc rest) k os) (sym copy-wants) (go (run-on g (course .whole) N S h now on k))
+      where
+        some : nextCost g now ≤ k → k < length steps + 2 → Dec (1 ≤ rest) → 1 < suc rest
+        some x y (yes z) = omega arith
+        some x y (no z) = absurd (omega (arith, course .cost now, ap length (none-left (omega (arith, lt-of-not-le z)))))
 
-  pub revert-kept : (now : Flash) (rest : ℕ) → Turning now rest → (k : ℕ) → k < length (bootOps g now)
-      → Kept g Turning (after k (bootOps g now) now) k rest
+        go : Outcome g N S h (2 * N) cs rest now k steps → Turned now (suc rest) k (steps ++ closeOps g S)
+        go (through l d none) =
+            tail-run erased (copying (on-end g N S h cs (2 * N) f₀ (course .way))) now (suc rest) k steps l d
+            (found .reads .swap) (omega arith) (λ x y. some x y (decLe 1 rest))
+        go (stopped l c z b gain still o) =
+            let at : applyAll (take k (steps ++ closeOps g S)) now ≡ applyAll (take k steps) now =
+            cut-first k steps (closeOps g S) now (omega (arith, c)) in
+            cut (suc l) (omega (arith, length-append steps (closeOps g S)))
+            (λ x. omega (arith, gain x))
+            (copying (subst (λ (x : Flash). On g N S h x (2 * N) cs l) (sym at) o))
+            (inr (
+              λ r one most q. omega (arith, c, length-append steps (closeOps g S), close-count g S),
+              ap (λ (x : Flash). readState (g .ws) (x .state)) at
+                  ∙ on-found g N S h (applyAll (take k steps) now) o .reads .swap,
+            ))
+
+    -- below the next step's cost a run is cut, and gains no step
+    pub revert-stay : 0 < rest → (k : ℕ) → k < nextCost g now
+        → (k < length (bootOps g now)) × On g N S h (after k (bootOps g now) now) (2 * N) cs rest
+    unfolding after
+    revert-stay some k few =
+        subst (λ (os : List Op). (k < length os) × On g N S h (applyAll (take k os) now) (2 * N) cs rest) (sym copy-wants)
+        (go (run-on g (course .whole) N S h now on k))
+      where
+        go : Outcome g N S h (2 * N) cs rest now k steps
+            → (k < length (steps ++ closeOps g S)) × On g N S h (applyAll (take k (steps ++ closeOps g S)) now) (2 * N) cs rest
+        go (through l d none) = absurd (omega (arith, none few))
+        go (stopped l c z b gain still o) = (
+          omega (arith, length-append steps (closeOps g S)),
+          subst (λ (x : Flash). On g N S h x (2 * N) cs rest)
+              (sym (cut-first k steps (closeOps g S) now (omega (arith, c))))
+              (subst (λ (i : ℕ). On g N S h (applyAll (take k steps) now) (2 * N) cs i) (still few) o),
+        )
+
+    pub revert-at : progress (g .ws) (now .state) + rest ≡ 4 * N
+    revert-at = omega (arith, found .sum, found .reads .done, revert-count N 0 (2 * N))
+
+  -- ---- a run
+
+  revert-run : (now : Flash) (m : ℕ) → Turning now m → (k : ℕ) → Turned now m k (bootOps g now)
+  revert-run now m (copying {rest = rest} on) k = copy-run now rest on k
+  revert-run now m (voided e) k = subst (λ (x : Flash). Turned x 1 k (bootOps g x)) (sym e) (void-run k)
+  revert-run now m (emptied j one most e) k = idle j one most e (ap (bootOps g) e ∙ gone-idle j one most)
+
+  pub revert-kept : (now : Flash) (m : ℕ) → Turning now m → (k : ℕ) → k < length (bootOps g now)
+      → Kept Turning (after k (bootOps g now) now) k (nextCost g now) m
   unfolding after
-  revert-kept now rest on k short = go (revert-run now rest on k)
+  revert-kept now m on k short = go (revert-run now m on k)
     where
-      go : Turned now rest k (bootOps g now) → Kept g Turning (applyAll (take k (bootOps g now)) now) k rest
-      go (ends l d s z) = absurd (not-le-of-lt short l)
-      go (idle e d z) = absurd (omega (arith, ap length d))
-      go (cut l c b gain still o w) = record { rest = l; inv = o; fewer = b; gain = gain; still = still }
+      go : Turned now m k (bootOps g now) → Kept Turning (applyAll (take k (bootOps g now)) now) k (nextCost g now) m
+      go (ends l d s) = absurd (not-le-of-lt short l)
+      go (idle j one most e d) = absurd (omega (arith, ap length d))
+      go (cut l c gain o w) = record { rest = l; inv = o; gain = gain }
 
-  pub revert-place : (now : Flash) (rest : ℕ) → Turning now rest → (k : ℕ) → k < length (bootOps g now)
-      → Place g gone (k + 1 ≡ length (bootOps g now)) (after k (bootOps g now) now)
+  -- all steps are done where only the end is left and nothing is erased
+  past-steps : (x : Flash) (m : ℕ) → Turning x m → m ≤ 1 → readState (g .ws) (x .state) ≡ Swap → 4 * N ≤ progress (g .ws) (x .state)
+  past-steps x m (copying {rest = rest} on) less swap = omega (arith, revert-at x rest on)
+  past-steps x m (voided e) less swap = rw e (omega (arith, void-reads .done, course .room))
+  past-steps x m (emptied j one most e) less swap = absurd (not-gone x j one most e swap)
+
+  -- where steps are left: the progress is below 4N, and something is wanted
+  steps-left : (now : Flash) (m : ℕ) → Turning now m → 0 < length (bootOps g now) → progress (g .ws) (now .state) < 4 * N
+      → (rest : ℕ) × (m ≡ suc rest) × On g N S h now (2 * N) (revertFrom N 0 (2 * N)) rest
+  steps-left now m (copying {rest = rest} on) wanted few = (rest, refl, on)
+  steps-left now m (voided e) wanted few =
+      absurd
+      (omega (
+        arith,
+        past-steps now 1 (voided e) (omega arith) (ap (λ (x : Flash). readState (g .ws) (x .state)) e ∙ void-reads .swap),
+      ))
+  steps-left now m (emptied j one most e) wanted few = absurd (omega (arith, ap length (ap (bootOps g) e ∙ gone-idle j one most)))
+
+  -- a run that is cut there gains a step if it has the next step's cost, and none if not
+  module _ (now : Flash) (m : ℕ) (on : Turning now m) (k : ℕ) (short : k < length (bootOps g now))
+      (few : progress (g .ws) (now .state) < 4 * N) where
+    abbrev next : Flash
+    next = after k (bootOps g now) now
+
+    pub revert-gains : nextCost g now ≤ k → readState (g .ws) (next .state) ≡ Swap
+        → progress (g .ws) (now .state) < progress (g .ws) (next .state)
+    revert-gains paid swap =
+        let o = revert-kept now m on k short in
+        let left = steps-left now m on (omega arith) few in
+        go (left .0) (left .2) (o .rest) (o .inv) (omega (arith, o .gain paid, left .1))
+      where
+        go : (rest : ℕ) → On g N S h now (2 * N) (revertFrom N 0 (2 * N)) rest → (l : ℕ) → Turning next l → l < suc rest
+            → progress (g .ws) (now .state) < progress (g .ws) (next .state)
+        go rest o l (copying {rest = fewer} o′) less = omega (arith, revert-at now rest o, revert-at next fewer o′)
+        go rest o l (voided e) less = omega (arith, past-steps next 1 (voided e) (omega arith) swap)
+        go rest o l (emptied j one most e) less = absurd (not-gone next j one most e swap)
+
+    pub revert-stays : k < nextCost g now → progress (g .ws) (next .state) ≡ progress (g .ws) (now .state)
+    revert-stays less =
+        let left = steps-left now m on (omega arith) few in
+        let here = revert-at now (left .0) (left .2) in
+        let o = revert-stay now (left .0) (left .2) (omega (arith, here)) k less in
+        omega (arith, here, revert-at next (left .0) (o .1))
+
+  -- where only the end is left, it is all that is wanted
+  pub revert-last : (now : Flash) (m : ℕ) → Turning now m → m ≤ 1 → length (bootOps g now) ≤ 2 + U
+  revert-last now m (copying {rest = rest} on) e =
+      omega (
+        arith,
+        ap length (copy-wants now rest on),
+        length-append (copiesOps g (revertFrom N 0 (2 * N)) now) (closeOps g S),
+        close-count g S,
+        ap length
+            (none-left now rest on (omega arith)),
+      )
+  revert-last now m (voided q) e = omega (arith, ap length (ap (bootOps g) q ∙ void-wants), close-count g S)
+  revert-last now m (emptied j one most q) e = omega (arith, ap length (ap (bootOps g) q ∙ gone-idle j one most))
+
+  pub revert-place : (now : Flash) (m : ℕ) → Turning now m → (k : ℕ) → k < length (bootOps g now)
+      → Place g U gone (λ (r : ℕ). k + r ≡ length (bootOps g now)) (after k (bootOps g now) now)
   unfolding after
-  revert-place now rest on k short = go (revert-run now rest on k)
+  revert-place now m on k short = go (revert-run now m on k)
     where
-      go : Turned now rest k (bootOps g now)
-          → Place g gone (k + 1 ≡ length (bootOps g now)) (applyAll (take k (bootOps g now)) now)
-      go (ends l d s z) = absurd (not-le-of-lt short l)
-      go (idle e d z) = absurd (omega (arith, ap length d))
-      go (cut l c b gain still o w) = w
+      go : Turned now m k (bootOps g now)
+          → Place g U gone (λ (r : ℕ). k + r ≡ length (bootOps g now)) (applyAll (take k (bootOps g now)) now)
+      go (ends l d s) = absurd (not-le-of-lt short l)
+      go (idle j one most e d) = absurd (omega (arith, ap length d))
+      go (cut l c gain o w) = w
 
-  -- a run that is not cut leaves the images, from a state area that reads Swap or from one that is erased
-  pub revert-ends : (now : Flash) (rest : ℕ) → Turning now rest → (k : ℕ) → length (bootOps g now) ≤ k
-      → ((after k (bootOps g now) now ≡ done) × (readState (g .ws) (now .state) ≡ Swap)) ⊎ (now ≡ gone)
-  unfolding applyAll
-  revert-ends now rest on k long = go (revert-run now rest on k)
+  -- a run that is not cut leaves the images, from a state area that reads Swap or from one with erased units
+  pub revert-ends : (now : Flash) (m : ℕ) → Turning now m → readState (g .ws) (now .state) ≡ Swap → (k : ℕ)
+      → length (bootOps g now) ≤ k → after k (bootOps g now) now ≡ done
+  revert-ends now m on swap k long = go (revert-run now m on k)
     where
-      go : Turned now rest k (bootOps g now)
-          → ((after k (bootOps g now) now ≡ done) × (readState (g .ws) (now .state) ≡ Swap)) ⊎ (now ≡ gone)
-      go (ends l d s z) = inl (after-all k (bootOps g now) now long ∙ d, s)
-      go (idle e d z) = inr e
-      go (cut l c b gain still o w) = absurd (not-le-of-lt c long)
-
-  pub revert-short : (now : Flash) (rest : ℕ) → Turning now rest → 0 < rest → (k : ℕ) → k < stepCost g
-      → k < length (bootOps g now)
-  revert-short now rest on some k few = go (revert-run now rest on k)
-    where
-      go : Turned now rest k (bootOps g now) → k < length (bootOps g now)
-      go (ends l d s z) = absurd (omega (arith, z few))
-      go (idle e d z) = absurd (omega (arith, z))
-      go (cut l c b gain still o w) = c
-
-  pub revert-at : (now : Flash) (rest : ℕ) → Turning now rest → rest ≡ 2 * N → 0 < N → progress (g .ws) (now .state) ≡ 2 * N
-  revert-at now rest (copying on) e some =
-      let r = on-found g N S h now on in omega (arith, r .sum, r .reads .done, revert-count N 0 (2 * N))
-  revert-at now rest (voided q) e some = absurd (omega arith)
-  revert-at now rest (emptied q) e some = absurd (omega arith)
+      go : Turned now m k (bootOps g now) → after k (bootOps g now) now ≡ done
+      go (ends l d s) = after-all k (bootOps g now) now long ∙ d
+      go (idle j one most e d) = absurd (not-gone now j one most e swap)
+      go (cut l c gain o w) = absurd (not-le-of-lt c long)

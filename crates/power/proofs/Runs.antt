@@ -1,5 +1,5 @@
--- Any number of cut runs: an invariant that one cut run keeps, with so many steps left, is kept by all of them, and the steps
--- left fall by one a run if each budget pays for a step. Also what a run of prepare_boot is over its list of operations. Cited by
+-- Any number of cut runs: an invariant that one cut run keeps, with so much left to do, is kept by all of them, and what is left
+-- falls by one a run if each budget pays the price. Also what a run of prepare_boot is over its list of operations. Cited by
 -- Swapped, Reverted, Proved and Settled. Assumes nothing.
 use mathlib.Core.Path.{_≡_, sym, subst}
 use mathlib.Core.Option.{some}
@@ -14,9 +14,10 @@ use Rattle.geometry.specs.Refusals.{bootRefusal}
 use Rattle.mem_flash.specs.Flash.{Flash, Op, after}
 use Rattle.rules.specs.StateArea.{readState}
 use Rattle.rules.specs.Boot.{bootOps, prepareBoot}
-use Rattle.rules.specs.Power.{stepCost}
+use Rattle.rules.specs.Power.{dearerCost, nextCost}
 use Rattle.power.specs.Power.{answer, ran, Cut, runs, AllCut, AllAtLeast, AllBelow}
 use Rattle.power.proofs.Areas.{all-lengths}
+use Rattle.power.proofs.Steps.{next-dearer}
 use Rattle.power.proofs.Cuts.{report-done, left-admitted, boot-rows, lawful}
 
 -- ---- one run
@@ -60,26 +61,30 @@ module _ (g : Geometry) (k : ℕ) (f : Flash) (a : Admits g f) where
 
 -- ---- any number of cut runs
 
--- a run that is cut keeps the invariant, with no more steps left, and with fewer if it had a step's cost
-pub record Kept (g : Geometry) (Inv : Flash → ℕ → Type 0) (next : Flash) (k was : ℕ) : Type 0 where
+-- a run that is cut keeps the invariant, with less left to do if it had the price
+pub record Kept (Inv : Flash → ℕ → Type 0) (next : Flash) (k price was : ℕ) : Type 0 where
   pub rest : ℕ
   pub inv : Inv next rest
-  pub fewer : rest ≤ was
-  pub gain : stepCost g ≤ k → rest < was
-  pub still : k < stepCost g → rest ≡ was
+  pub gain : price ≤ k → rest < was
+
+-- the dearer step's cost pays for the next step
+pub dearer : (g : Geometry) (Inv : Flash → ℕ → Type 0) (now next : Flash) (k was : ℕ) → Kept Inv next k (nextCost g now) was
+    → Kept Inv next k (dearerCost g) was
+dearer g Inv now next k was o =
+    record { rest = o .rest; inv = o .inv; gain = λ x. o .gain (omega (arith, next-dearer g now)) }
 
 -- and so do any number of them
-pub record Left (g : Geometry) (Inv : Flash → ℕ → Type 0) (next : Flash) (ks : List ℕ) (was : ℕ) : Type 0 where
+pub record Left (g : Geometry) (Inv : Flash → ℕ → Type 0) (next : Flash) (ks : List ℕ) (price was : ℕ) : Type 0 where
   pub admits : Admits g next
   pub rest : ℕ
   pub inv : Inv next rest
-  pub gain : AllAtLeast (stepCost g) ks → rest + length ks ≤ was
+  pub gain : AllAtLeast price ks → rest + length ks ≤ was
 
-module _ (g : Geometry) (Inv : Flash → ℕ → Type 0)
-    (step : (now : Flash) (was : ℕ) → Inv now was → (k : ℕ) → k < length (bootOps g now) → Kept g Inv
-    (after k (bootOps g now) now) k was) where
+module _ (g : Geometry) (Inv : Flash → ℕ → Type 0) (price : ℕ)
+    (step : (now : Flash) (was : ℕ) → Inv now was → (k : ℕ) → k < length (bootOps g now)
+    → Kept Inv (after k (bootOps g now) now) k price was) where
   pub runs-left : (ks : List ℕ) (now : Flash) (was : ℕ) → Admits g now → Inv now was → AllCut g ks now
-      → Left g Inv (runs g ks now) ks was
+      → Left g Inv (runs g ks now) ks price was
   unfolding runs AllCut AllAtLeast
   runs-left [] now was a on cuts = record { admits = a; rest = was; inv = on; gain = λ x. omega arith }
   runs-left (k ∷ ks) now was a on cuts =
@@ -88,17 +93,13 @@ module _ (g : Geometry) (Inv : Flash → ℕ → Type 0)
       (subst (λ (x : Flash). Inv x (o .rest)) (sym (ran-after g k now a)) (o .inv)) (cuts .1) in
       record { admits = r .admits; rest = r .rest; inv = r .inv; gain = λ x. omega (arith, r .gain (x .1), o .gain (x .0)) }
 
-  -- with fewer operations at each run none of them ends, and no step is gained
-  pub runs-stuck : ((now : Flash) (was : ℕ) → Inv now was → 0 < was → (k : ℕ) → k < stepCost g → k < length (bootOps g now))
-      → (ks : List ℕ) (now : Flash) (was : ℕ) → Admits g now → Inv now was → 0 < was → AllBelow (stepCost g) ks
-      → AllCut g ks now × Inv (runs g ks now) was
+-- where a run below the price is cut and leads to such a place again, so does any number of them
+module _ (g : Geometry) (Here : Flash → Type 0) (price : ℕ)
+    (stay : (now : Flash) → Here now → (k : ℕ) → k < price → (k < length (bootOps g now)) × Here (after k (bootOps g now) now)) where
+  pub runs-stuck : (ks : List ℕ) (now : Flash) → Admits g now → Here now → AllBelow price ks → AllCut g ks now × Here (runs g ks now)
   unfolding runs AllCut AllBelow
-  runs-stuck short [] now was a on more few = (tt, on)
-  runs-stuck short (k ∷ ks) now was a on more few =
-      let c = short now was on more k (few .0) in
-      let o = step now was on k c in
-      let i : Inv (ran g k now) was =
-      subst (λ (x : Flash). Inv x was) (sym (ran-after g k now a))
-      (subst (Inv (after k (bootOps g now) now)) (o .still (few .0)) (o .inv)) in
-      let r = runs-stuck short ks (ran g k now) was (admits-ran g k now a) i more (few .1) in
-      ((short-cut g k now a c, r .0), r .1)
+  runs-stuck [] now a on few = (tt, on)
+  runs-stuck (k ∷ ks) now a on few =
+      let o = stay now on k (few .0) in
+      let r = runs-stuck ks (ran g k now) (admits-ran g k now a) (subst Here (sym (ran-after g k now a)) (o .1)) (few .1) in
+      ((short-cut g k now a (o .0), r .0), r .1)

@@ -4,7 +4,7 @@ use mathlib.Core.Path.{_≡_, refl, sym, ap, _∙_, subst}
 use mathlib.Core.Option.{some}
 use mathlib.Core.Logic.{_⊎_, inl, inr}
 use mathlib.Core.List.{List, [], _∷_, _++_}
-use Prim.Native.Nat.{ℕ, zero, suc, _+_, _-_, _*_, _/_, _≤_, _<_, zero-le}
+use Prim.Native.Nat.{ℕ, suc, _+_, _-_, _*_, _/_, _≤_, _<_, zero-le}
 use native.Mathlib.Nat.{zero-mul, eq-or-lt-of-le, lt-of-not-le, mul-le-mul-right, div-mul-le-self}
 use native.Mathlib.Decide.{decLe}
 use native.Mathlib.Omega.{arith}
@@ -16,10 +16,12 @@ use Rattle.state.specs.Magic.{erased, marked, magic, stateOf}
 use Rattle.geometry.specs.declared.Geometry.{Geometry}
 use Rattle.geometry.specs.Geometry.{page, pages, words}
 use Rattle.geometry.specs.Refusals.{bootWords}
+use Rattle.geometry.specs.Admitted.{Admitted}
 use Rattle.geometry.proofs.Rows.{admitted}
+use Rattle.geometry.proofs.Tests.{even-times}
 use Rattle.mem_flash.specs.Flash.{Flash, Op, erasedAt, writtenAt, change, apply, applyAll, after}
 use Rattle.rules.specs.StateArea.{word, readState, mostMarks, progress, markOp}
-use Rattle.rules.specs.Steps.{Copy, toDfu, toActive, swapFrom, revertFrom, sourceOf, unitOf, fillOps, copyOps, onceOps, copiesOps, pageCount}
+use Rattle.rules.specs.Steps.{Copy, swapFrom, revertFrom, sourceOf, unitOf, fillOps, copyOps, onceOps, copiesOps, pageCount}
 use Rattle.rules.specs.Calls.{Report}
 use Rattle.rules.specs.Boot.{bootOpsIn, bootOps, prepareBoot}
 use Rattle.rules.specs.Power.{magicArea}
@@ -30,26 +32,26 @@ use Rattle.power.proofs.Bytes.{chunked}
 use Rattle.power.proofs.Words.{revert-reads}
 use Rattle.power.proofs.Marks.{withMark, same-state, mark-passes}
 use Rattle.power.proofs.Areas.{apply-append, after-all, after-none, placed-same, Image, state-placed, all-lengths}
-use Rattle.power.proofs.Steps.{fill-placed}
+use Rattle.power.proofs.Steps.{fill-placed, Whole, whole-page}
 use Rattle.power.proofs.Finish.{closed, closeOps, finish-close, finished}
 use Rattle.power.proofs.Way.{Reads, once-skip, once-do}
-use Rattle.power.proofs.Tables.{swap-count}
+use Rattle.power.proofs.Tables.{swap-count, Row, swap-row}
 use Rattle.power.proofs.Runs.{Admits, ran-after, admits-ran, whole-long, answer-done}
 use Rattle.power.proofs.Swapped.{boot-swaps, boot-reverts}
 
 -- ---- the state area after the swap's steps
 
 -- a whole step leaves the state area with its mark
-step-state : (g : Geometry) (c : Copy) (f : Flash) → Image (c .to)
+step-state : (g : Geometry) → Whole g → (c : Copy) (f : Flash) → Image (c .to)
     → applyAll (copyOps g c f) f .state ≡ withMark (g .ws) (c .mark) (f .state)
 unfolding copyOps applyAll apply markOp change withMark
-step-state g c f i =
+step-state g whole c f i =
     ap (λ (x : Flash). x .state)
     (apply-append fills marks f
     ∙ ap (applyAll marks)
     (ap (applyAll fills) (sym (placed-same (c .to) f))
     ∙ fill-placed (unitOf g (c .to)) (page g) (g .b) (c .target * page g) (c .source * page g) (c .to) (sourceOf (c .to) f)
-    (areaOf (c .to) f) f))
+    (areaOf (c .to) f) f (whole .units (c .to) i)))
     ∙ ap (writtenAt ((2 + c .mark) * g .ws) (replicate (g .ws) marked)) (state-placed (c .to) left f i)
   where
     fills : List Op
@@ -69,16 +71,16 @@ record Past (w : ℕ) (st st′ : List ℕ) (i : ℕ) : Type 0 where
   size : length st′ ≡ length st
   past : i ≤ progress w st′
 
-once-past : (g : Geometry) (c : Copy) (f : Flash) → Image (c .to) → c .mark ≤ progress (g .ws) (f .state)
+once-past : (g : Geometry) → Whole g → (c : Copy) (f : Flash) → Image (c .to) → c .mark ≤ progress (g .ws) (f .state)
     → c .mark < mostMarks (g .ws) (f .state) → Past (g .ws) (f .state) (applyAll (onceOps g c f) f .state) (suc (c .mark))
 unfolding applyAll
-once-past g c f i h m = go (eq-or-lt-of-le h)
+once-past g whole c f i h m = go (eq-or-lt-of-le h)
   where
     go : (c .mark ≡ progress (g .ws) (f .state)) ⊎ (c .mark < progress (g .ws) (f .state))
         → Past (g .ws) (f .state) (applyAll (onceOps g c f) f .state) (suc (c .mark))
     go (inl e) =
         let d : applyAll (onceOps g c f) f .state ≡ withMark (g .ws) (c .mark) (f .state) =
-        ap (λ (os : List Op). applyAll os f .state) (once-do g c f (omega (arith, e))) ∙ step-state g c f i in
+        ap (λ (os : List Op). applyAll os f .state) (once-do g c f (omega (arith, e))) ∙ step-state g whole c f i in
         record {
           same = ap (readState (g .ws)) d ∙ same-state (g .ws) (c .mark) (f .state);
           size = all-lengths (onceOps g c f) f .state;
@@ -88,28 +90,17 @@ once-past g c f i h m = go (eq-or-lt-of-le h)
         let d : applyAll (onceOps g c f) f .state ≡ f .state = ap (λ (os : List Op). applyAll os f .state) (once-skip g c f l) in
         record { same = ap (readState (g .ws)) d; size = ap length d; past = rw d l }
 
--- steps on the images, numbered from i on
-abbrev Row : ℕ → List Copy → Type 0
-Row i [] = Unit {0}
-Row i (c ∷ cs) = Image (c .to) × (c .mark ≡ i) × Row (suc i) cs
-
-swap-row : (k i : ℕ) → Row i (swapFrom k i)
-unfolding swapFrom toDfu toActive
-swap-row zero i = tt
-swap-row (suc k) i =
-    (tt, refl, (tt, omega arith, subst (λ (n : ℕ). Row n (swapFrom k (i + 2))) (omega arith) (swap-row k (i + 2))))
-
-row-past : (g : Geometry) (cs : List Copy) (i : ℕ) (f : Flash) → Row i cs → i ≤ progress (g .ws) (f .state)
+row-past : (g : Geometry) → Whole g → (cs : List Copy) (i : ℕ) (f : Flash) → Row i cs → i ≤ progress (g .ws) (f .state)
     → i + length cs ≤ mostMarks (g .ws) (f .state)
     → Past (g .ws) (f .state) (applyAll (copiesOps g cs f) f .state) (i + length cs)
 unfolding copiesOps applyAll mostMarks
-row-past g [] i f r h m = record { same = refl; size = refl; past = omega arith }
-row-past g (c ∷ cs) i f r h m =
+row-past g whole [] i f r h m = record { same = refl; size = refl; past = omega arith }
+row-past g whole (c ∷ cs) i f r h m =
     let e : c .mark ≡ i = r .1 in
-    let o = once-past g c f (r .0) (omega arith) (omega arith) in
+    let o = once-past g whole c f (r .0) (omega arith) (omega arith) in
     let next : Flash = applyAll (onceOps g c f) f in
     let z : words (g .ws) (length (next .state)) ≡ words (g .ws) (length (f .state)) = ap (words (g .ws)) (o .size) in
-    let q = row-past g cs (suc i) next (r .2) (omega (arith, o .past)) (omega arith) in
+    let q = row-past g whole cs (suc i) next (r .2) (omega (arith, o .past)) (omega arith) in
     let d : applyAll (copiesOps g (c ∷ cs) f) f .state ≡ applyAll (copiesOps g cs next) next .state =
     ap (λ (x : Flash). x .state) (apply-append (onceOps g c f) (copiesOps g cs next) f) in
     record {
@@ -132,12 +123,15 @@ module _ (g : Geometry) (f : Flash) (a : Admits g f) where
   abbrev N : ℕ
   N = pageCount g f
 
+  ad : Admitted g (length (f .active)) (length (f .dfu)) (length (f .state))
+  ad = admitted g (length (f .active)) (length (f .dfu)) (length (f .state)) a
+
   enough : bootWords N ≤ words (g .ws) (length (f .state))
   unfolding pageCount
-  enough = admitted g (length (f .active)) (length (f .dfu)) (length (f .state)) a .state-words
+  enough = ad .state-words
 
   some-word : 0 < g .ws
-  some-word = admitted g (length (f .active)) (length (f .dfu)) (length (f .state)) a .numbers .ws .some
+  some-word = ad .numbers .ws .some
 
   module _ (swap : readState (g .ws) (f .state) ≡ Swap) where
     reads : Reads g N (length (f .state)) (progress (g .ws) (f .state)) f
@@ -148,7 +142,7 @@ module _ (g : Geometry) (f : Flash) (a : Admits g f) where
     unfolding bootWords mostMarks
     swap-through h =
         let n : length (swapFrom N 0) ≡ 2 * N = swap-count N 0 in
-        let p = row-past g (swapFrom N 0) 0 f (swap-row N 0) zero-le (omega (arith, enough)) in
+        let p = row-past g (whole-page ad) (swapFrom N 0) 0 f (swap-row N 0) zero-le (omega (arith, enough)) in
         let d : bootOps g f ≡ copiesOps g (swapFrom N 0) f =
         boot-swaps g N (length (f .state)) (progress (g .ws) (f .state)) f reads h in
         subst (λ (os : List Op). Past (g .ws) (f .state) (applyAll os f .state) (2 * N)) (sym d)
@@ -174,7 +168,8 @@ module _ (g : Geometry) (f : Flash) (a : Admits g f) where
         ) in
         ap (λ (os : List Op). readState (g .ws) (applyAll os f .state)) d
         ∙ ap (λ (y : Flash). readState (g .ws) (y .state))
-        (apply-append copies (closeOps g n) f ∙ finished (x .active) (x .dfu) g n (x .state) (all-lengths copies f .state) fit)
+        (apply-append copies (closeOps g n) f ∙ finished (x .active) (x .dfu) g n (x .state)
+        (even-times n (g .es) (ad .state-units)) (all-lengths copies f .state) fit)
         ∙ area-reads (g .ws) n some-word
 
   -- ---- runs that are not cut

@@ -3,7 +3,7 @@
 use mathlib.Core.Path.{_≡_, sym, ap, ap₂, _∙_}
 use mathlib.Core.List.{List, _++_, append-assoc, append-nil}
 use Prim.Native.Nat.{ℕ, zero, suc, _+_, _-_, _*_, _/_, _≤_, _<_, zero-le, suc-le-suc}
-use native.Mathlib.Nat.{zero-mul, one-mul, dvd-of-mod-eq-zero, dvd-trans, div-mul-cancel}
+use native.Mathlib.Nat.{zero-mul, one-mul, mul-le-mul-right, dvd-of-mod-eq-zero, dvd-trans, div-mul-cancel}
 use native.Mathlib.Omega.{arith}
 use lib.ListN.{length, take, drop, replicate, length-append, length-drop, take-append-drop, replicate-append-replicate, drop-of-length-le}
 use lib.Seq.{drop-at, length-take-le, take-all, drop-append-add, drop-append-le}
@@ -14,13 +14,15 @@ use Rattle.geometry.specs.Geometry.{page, pages, words}
 use Rattle.geometry.specs.Refusals.{bootRefusal}
 use Rattle.geometry.proofs.Rows.{admitted}
 use Rattle.geometry.proofs.Tests.{even-times, page-some}
-use Rattle.mem_flash.specs.Flash.{Flash}
-use Rattle.rules.specs.Steps.{pageCount}
-use Rattle.rules.specs.Power.{magicArea, swapMarks, pageAt, withPage, stepCost}
+use Rattle.mem_flash.specs.Flash.{Area, Flash}
+use Rattle.rules.specs.StateArea.{progress}
+use Rattle.rules.specs.Steps.{unitOf, pageCount}
+use Rattle.rules.specs.Power.{magicArea, swapMarks, revertMarks, pageAt, withPage, stepCost, stepTo, nextCost}
 use Rattle.power.specs.Power.{Bytes}
 use Rattle.power.proofs.Bytes.{bytes-take, bytes-drop, bytes-append}
 use Rattle.power.proofs.Pages.{mix, pages-le, page-take, page-append-left, page-append-right}
-use Rattle.power.proofs.Words.{spread, marks, spread-append, spread-replicate}
+use Rattle.power.proofs.Words.{spread, marks, length-spread, length-marks, spread-append, spread-replicate}
+use Rattle.power.proofs.Steps.{Whole, whole-page, to-image}
 use Rattle.power.proofs.Tables.{Images}
 
 -- ---- the images
@@ -134,40 +136,73 @@ swapped-marks w N t h =
     ∙ ap₂ (λ (l r : List ℕ). l ++ r) (spread-replicate w (2 * N) marked)
     (spread-replicate w u erased ∙ ap (λ (n : ℕ). replicate n erased) e))
 
+pub reverted-marks : (w N t : ℕ) → 4 * N ≤ t → spread w (marks marked (4 * N) (t - 4 * N)) ≡ revertMarks w N ((2 + t) * w)
+unfolding revertMarks spread marks
+reverted-marks w N t h =
+    let u : ℕ = t - 4 * N in
+    let a : t ≡ 4 * N + u = omega arith in
+    let b : t * w ≡ (4 * N + u) * w = ap (λ (z : ℕ). z * w) a in
+    let e : u * w ≡ (2 + t) * w - (2 + 4 * N) * w = omega (arith, b) in
+    let m : w + 4 * N * w ≡ (1 + 4 * N) * w = omega arith in
+    ap (λ (r : List ℕ). replicate w (magic Swap) ++ (replicate w marked ++ r))
+    (spread-append w (replicate (4 * N) marked) (replicate u erased)
+    ∙ ap₂ (λ (l r : List ℕ). l ++ r) (spread-replicate w (4 * N) marked)
+    (spread-replicate w u erased ∙ ap (λ (n : ℕ). replicate n erased) e))
+    ∙ ap (λ (r : List ℕ). replicate w (magic Swap) ++ r)
+    (sym (append-assoc (replicate w marked) (replicate (4 * N * w) marked) (replicate ((2 + t) * w - (2 + 4 * N) * w) erased))
+    ∙ ap (λ (r : List ℕ). r ++ replicate ((2 + t) * w - (2 + 4 * N) * w) erased)
+    (replicate-append-replicate w (4 * N * w) marked ∙ ap (λ (n : ℕ). replicate n marked) m))
+
+pub reverted-size : (w N t : ℕ) → 4 * N ≤ t → length (revertMarks w N ((2 + t) * w)) ≡ (2 + t) * w
+reverted-size w N t h =
+    let e : length (marks marked (4 * N) (t - 4 * N)) ≡ 2 + t = omega (arith, length-marks marked (4 * N) (t - 4 * N)) in
+    ap length (sym (reverted-marks w N t h)) ∙ length-spread w (marks marked (4 * N) (t - 4 * N)) ∙ ap (λ (z : ℕ). z * w) e
+
 -- ---- an admitted geometry
 
 some-factor : (n b p : ℕ) → n * b ≡ p → 0 < p → 0 < n
 some-factor zero b p e h = absurd (omega (arith, zero-mul b))
 some-factor (suc n) b p e h = suc-le-suc zero-le
 
--- N pages, a state area of 2 + t words with more than 4N marks, and the last three operations of a revert cost no more than a step
+-- N pages; every step costs three operations or more; a state area of 2 + t words with more than 4N marks, in whole erase
+-- units of a word or more
 pub record Sized (g : Geometry) (f : Flash) (t : ℕ) : Type 0 where
   pub ws : 0 < g .ws
   pub paged : Paged (page g) (pageCount g f) (f .active) (f .dfu)
-  pub cost : 3 ≤ stepCost g
-  pub whole : page g / g .b * g .b ≡ page g
+  pub cost : (x : Flash) → 3 ≤ nextCost g x
+  pub whole : Whole g
   pub state : length (f .state) ≡ (2 + t) * g .ws
+  pub units : length (f .state) / g .es * g .es ≡ length (f .state)
+  pub unit : g .ws ≤ g .es
   pub room : 4 * pageCount g f < t
 
 pub sized : (g : Geometry) (f : Flash) → bootRefusal g (length (f .active)) (length (f .dfu)) (length (f .state)) ≡ 0
     → 4 * pageCount g f + 3 ≤ words (g .ws) (length (f .state)) → Sized g f (words (g .ws) (length (f .state)) - 2)
-unfolding pageCount pages words stepCost
+unfolding pageCount pages words stepCost nextCost
 sized g f r room =
     let a = admitted g (length (f .active)) (length (f .dfu)) (length (f .state)) r in
     let p : 0 < page g = page-some g (a .numbers) in
-    let whole : page g / g .b * g .b ≡ page g = even-times (page g) (g .b) (a .page-b) in
+    let whole : Whole g = whole-page a in
     let active : length (f .active) / page g * page g ≡ length (f .active) =
     even-times (length (f .active)) (page g) (a .active-pages) in
     let full : length (f .state) / g .ws * g .ws ≡ length (f .state) =
     div-mul-cancel (g .ws) (dvd-trans (g .ws) (dvd-of-mod-eq-zero (g .ws) (a .unit-words))
     (dvd-of-mod-eq-zero (g .es) (a .state-units))) in
     let two : length (f .state) / g .ws ≡ 2 + (length (f .state) / g .ws - 2) = omega arith in
-    let chunks : 0 < page g / g .b = some-factor (page g / g .b) (g .b) (page g) whole p in
+    let chunks : 0 < page g / g .b = some-factor (page g / g .b) (g .b) (page g) (whole .chunks) p in
+    let e : g .es / g .ws * g .ws ≡ g .es = even-times (g .es) (g .ws) (a .unit-words) in
+    let n : 1 ≤ g .es / g .ws = some-factor (g .es / g .ws) (g .ws) (g .es) e (a .numbers .es .some) in
     record {
       ws = a .numbers .ws .some;
       paged = record { some = p; active = sym active; dfu = omega (arith, a .dfu-longer, active) };
-      cost = omega arith;
+      cost = λ x.
+          let to : Area = stepTo (progress (g .ws) (x .state)) in
+          let u : 0 < page g / unitOf g to =
+          some-factor (page g / unitOf g to) (unitOf g to) (page g) (whole .units to (to-image (progress (g .ws) (x .state)))) p in
+          omega arith;
       whole = whole;
       state = sym full ∙ ap (λ (n : ℕ). n * g .ws) two;
+      units = even-times (length (f .state)) (g .es) (a .state-units);
+      unit = omega (arith, e, mul-le-mul-right (g .ws) n);
       room = omega arith;
     }

@@ -3,7 +3,7 @@
 use mathlib.Core.Path.{_≡_, sym, ap, _∙_, subst}
 use mathlib.Core.Bool.{Bool}
 use mathlib.Core.List.{List, _++_}
-use Prim.Native.Nat.{ℕ, _+_, _*_, _/_, _≤_, _<_}
+use Prim.Native.Nat.{ℕ, _+_, _*_, _≤_, _<_}
 use native.Mathlib.Nat.{not-le-of-lt}
 use native.Mathlib.Omega.{arith}
 use lib.ListN.{length, take}
@@ -12,13 +12,13 @@ use Rattle.state.specs.declared.State.{State}
 use Rattle.state.specs.declared.State.the-variants.{Swap}
 use Rattle.state.specs.Choice.{pick}
 use Rattle.geometry.specs.declared.Geometry.{Geometry}
-use Rattle.geometry.specs.Geometry.{page}
 use Rattle.mem_flash.specs.Flash.{Flash, Op, applyAll, after}
 use Rattle.rules.specs.StateArea.{readState, progress}
 use Rattle.rules.specs.Steps.{swapFrom, revertFrom, swapSteps, revertSteps, copiesOps, pageCount, swapOps, revertOps}
 use Rattle.rules.specs.Boot.{finishOps, bootOpsIn, bootOps}
-use Rattle.rules.specs.Power.{stepCost}
+use Rattle.rules.specs.Power.{nextCost}
 use Rattle.power.proofs.Areas.{after-all}
+use Rattle.power.proofs.Steps.{Whole}
 use Rattle.power.proofs.Way.{Reads, On, on-found, Outcome, through, stopped, run-on}
 use Rattle.power.proofs.Tables.{swap-count}
 use Rattle.power.proofs.Runs.{Kept}
@@ -48,7 +48,7 @@ module _ (g : Geometry) (N S n : ℕ) (f : Flash) (r : Reads g N S n f) where
 
 -- ---- the swap
 
-module _ (g : Geometry) (whole : page g / g .b * g .b ≡ page g) (N S : ℕ) (h : Flash) where
+module _ (g : Geometry) (whole : Whole g) (N S : ℕ) (h : Flash) where
   -- on the way of the swap to h, with some steps left
   abbrev pub Swapping : Flash → ℕ → Type 0
   Swapping now rest = On g N S h now 0 (swapFrom N 0) rest × (0 < rest)
@@ -61,14 +61,14 @@ module _ (g : Geometry) (whole : page g / g .b * g .b ≡ page g) (N S : ℕ) (h
       subst (λ (os : List Op). Outcome g N S h 0 (swapFrom N 0) rest now k os) (sym e) (run-on g whole N S h now (on .0) k)
 
   pub swap-kept : (now : Flash) (rest : ℕ) → Swapping now rest → (k : ℕ) → k < length (bootOps g now)
-      → Kept g Swapping (after k (bootOps g now) now) k rest
+      → Kept Swapping (after k (bootOps g now) now) k (nextCost g now) rest
   unfolding after
   swap-kept now rest on k short = go (swap-run now rest on k)
     where
       go : Outcome g N S h 0 (swapFrom N 0) rest now k (bootOps g now)
-          → Kept g Swapping (applyAll (take k (bootOps g now)) now) k rest
+          → Kept Swapping (applyAll (take k (bootOps g now)) now) k (nextCost g now) rest
       go (through l d z) = absurd (not-le-of-lt short l)
-      go (stopped l c p b gain still o) = record { rest = l; inv = (o, p); fewer = b; gain = gain; still = still }
+      go (stopped l c p b gain still o) = record { rest = l; inv = (o, p); gain = gain }
 
   pub swap-ends : (now : Flash) (rest : ℕ) → Swapping now rest → (k : ℕ) → length (bootOps g now) ≤ k
       → after k (bootOps g now) now ≡ h
@@ -81,12 +81,17 @@ module _ (g : Geometry) (whole : page g / g .b * g .b ≡ page g) (N S : ℕ) (h
   pub swap-reads : (now : Flash) (rest : ℕ) → Swapping now rest → readState (g .ws) (now .state) ≡ Swap
   swap-reads now rest on = on-found g N S h now (on .0) .reads .swap
 
-  pub swap-short : (now : Flash) (rest : ℕ) → Swapping now rest → 0 < rest → (k : ℕ) → k < stepCost g → k < length (bootOps g now)
-  swap-short now rest on some k few = go (swap-run now rest on k)
+  -- below the next step's cost a run is cut, and gains no step
+  pub swap-stay : (now : Flash) (rest : ℕ) → Swapping now rest → (k : ℕ) → k < nextCost g now
+      → (k < length (bootOps g now)) × Swapping (after k (bootOps g now) now) rest
+  unfolding after
+  swap-stay now rest on k few = go (swap-run now rest on k)
     where
-      go : Outcome g N S h 0 (swapFrom N 0) rest now k (bootOps g now) → k < length (bootOps g now)
-      go (through l d z) = absurd (omega (arith, z few))
-      go (stopped l c p b gain still o) = c
+      go : Outcome g N S h 0 (swapFrom N 0) rest now k (bootOps g now)
+          → (k < length (bootOps g now)) × Swapping (applyAll (take k (bootOps g now)) now) rest
+      go (through l d z) = absurd (omega (arith, z few, on .1))
+      go (stopped l c p b gain still o) =
+          (c, (subst (λ (i : ℕ). On g N S h (applyAll (take k (bootOps g now)) now) 0 (swapFrom N 0) i) (still few) o, on .1))
 
   -- the steps done and the steps left are all of them
   pub swap-at : (now : Flash) (rest : ℕ) → Swapping now rest → progress (g .ws) (now .state) + rest ≡ 2 * N

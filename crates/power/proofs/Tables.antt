@@ -2,25 +2,25 @@
 -- marks are done. The steps of the swap and of the revert lead from table to table. Cited by Start, Swapped, Reverted and Proved.
 -- Assumes nothing.
 use mathlib.Core.Path.{_≡_, refl, sym, ap, ap₂, _∙_, subst}
-use mathlib.Core.List.{List, _∷_}
-use Prim.Native.Nat.{ℕ, zero, suc, _+_, _-_, _*_, _/_, _≤_, _<_}
+use mathlib.Core.List.{List, [], _∷_}
+use Prim.Native.Nat.{ℕ, zero, suc, _+_, _-_, _*_, _/_, _%_, _≤_, _<_}
 use native.Mathlib.Nat.{suc-mul, mul-le-mul-right, mul-div-cancel}
 use native.Mathlib.Omega.{arith}
 use lib.ListN.{length, take, drop, replicate}
 use Rattle.state.specs.Magic.{erased, marked}
 use Rattle.geometry.specs.declared.Geometry.{Geometry}
 use Rattle.geometry.specs.Geometry.{page, pages}
-use Rattle.mem_flash.specs.Flash.{Flash, writtenAt, change}
+use Rattle.mem_flash.specs.Flash.{active, dfu, Flash, writtenAt, change}
 use Rattle.mem_flash.specs.Run.{placed}
 use Rattle.rules.specs.Steps.{Copy, toDfu, toActive, swapFrom, revertFrom, sourceOf, pageCount}
-use Rattle.rules.specs.Power.{pageAt, withPage}
+use Rattle.rules.specs.Power.{pageAt, withPage, stepTo}
 use Rattle.power.specs.Power.{Bytes}
 use Rattle.power.specs.Inside.{areaOf}
 use Rattle.power.proofs.Bytes.{bytes-take, bytes-drop, bytes-append}
 use Rattle.power.proofs.Pages.{mix, pages-le, length-mix, page-mix-left, page-mix-right, mix-up, mix-down}
 use Rattle.power.proofs.Words.{spread, marks, length-spread, length-marks, reads-swap, progress-marks, mark-next}
-use Rattle.power.proofs.Areas.{flash-path}
-use Rattle.power.proofs.Steps.{stepped}
+use Rattle.power.proofs.Areas.{Image, flash-path}
+use Rattle.power.proofs.Steps.{stepped, even-dfu, odd-active}
 use Rattle.power.proofs.Way.{Reads, Leg, Way}
 
 -- ---- the lists of steps, counted by one
@@ -51,6 +51,23 @@ pub revert-count : (j k i : ℕ) → length (revertFrom j k i) ≡ 2 * j
 unfolding revertFrom
 revert-count zero k i = refl
 revert-count (suc j) k i = omega (arith, revert-count j (k + 1) (i + 2))
+
+-- steps on the images, numbered from i on
+abbrev pub Row : ℕ → List Copy → Type 0
+Row i [] = Unit {0}
+Row i (c ∷ cs) = Image (c .to) × (c .mark ≡ i) × Row (suc i) cs
+
+pub swap-row : (k i : ℕ) → Row i (swapFrom k i)
+unfolding swapFrom toDfu toActive
+swap-row zero i = tt
+swap-row (suc k) i =
+    (tt, refl, (tt, omega arith, subst (λ (n : ℕ). Row n (swapFrom k (i + 2))) (omega arith) (swap-row k (i + 2))))
+
+pub revert-row : (j k i : ℕ) → Row i (revertFrom j k i)
+unfolding revertFrom toDfu toActive
+revert-row zero k i = tt
+revert-row (suc j) k i =
+    (tt, refl, (tt, omega arith, subst (λ (n : ℕ). Row n (revertFrom j (k + 1) (i + 2))) (omega arith) (revert-row j (k + 1) (i + 2))))
 
 -- ---- the table
 
@@ -108,14 +125,15 @@ module _ (g : Geometry) (N t : ℕ) (A D A′ D′ : List ℕ) (ws : 0 < g .ws) 
       }
 
   -- a step to DFU: page k from active page s, with c pages of active and d of DFU old, moves d to d′
-  leg-dfu : (c d d′ s k n : ℕ) → c ≤ N → d ≤ suc N → s < N → k * P + P ≤ length D → n < t
+  leg-dfu : (c d d′ s k n : ℕ) → c ≤ N → d ≤ suc N → s < N → k * P + P ≤ length D → n < t → dfu ≡ stepTo n
       → withPage P k (pageAt P s (mix P c A A′)) (mix P d D D′) ≡ mix P d′ D D′
       → Leg g N ((2 + t) * g .ws) n (toDfu n s k) (at c d n) (at c d′ (suc n))
   unfolding table toDfu stepped placed change sourceOf areaOf
-  leg-dfu c d d′ s k n hc hd hs fit hn e =
+  leg-dfu c d d′ s k n hc hd hs fit hn to e =
       record {
         reads = table-reads c d n hc hn;
         number = refl;
+        target = to;
         fits =
             record {
               image = tt;
@@ -127,14 +145,15 @@ module _ (g : Geometry) (N t : ℕ) (A D A′ D′ : List ℕ) (ws : 0 < g .ws) 
       }
 
   -- a step to active: page k from DFU page s moves c to c′
-  leg-active : (c c′ d s k n : ℕ) → c ≤ N → d ≤ suc N → s * P + P ≤ length D → k < N → n < t
+  leg-active : (c c′ d s k n : ℕ) → c ≤ N → d ≤ suc N → s * P + P ≤ length D → k < N → n < t → active ≡ stepTo n
       → withPage P k (pageAt P s (mix P d D D′)) (mix P c A A′) ≡ mix P c′ A A′
       → Leg g N ((2 + t) * g .ws) n (toActive n s k) (at c d n) (at c′ d (suc n))
   unfolding table toActive stepped placed change sourceOf areaOf
-  leg-active c c′ d s k n hc hd fit hk hn e =
+  leg-active c c′ d s k n hc hd fit hk hn to e =
       record {
         reads = table-reads c d n hc hn;
         number = refl;
+        target = to;
         fits =
             record {
               image = tt;
@@ -152,59 +171,59 @@ module _ (g : Geometry) (N t : ℕ) (A D A′ D′ : List ℕ) (ws : 0 < g .ws) 
     inside-dfu : suc k * P + P ≤ length D
     inside-dfu = omega (arith, pages-le P h, im .dfu)
 
-    swap-dfu : Leg g N ((2 + t) * g .ws) n (toDfu n k (suc k)) (at (suc k) (suc (suc k)) n) (at (suc k) (suc k) (suc n))
-    swap-dfu =
-        leg-dfu (suc k) (suc (suc k)) (suc k) k (suc k) n h (omega arith) h inside-dfu hn
+    swap-dfu : dfu ≡ stepTo n → Leg g N ((2 + t) * g .ws) n (toDfu n k (suc k)) (at (suc k) (suc (suc k)) n) (at (suc k) (suc k) (suc n))
+    swap-dfu to =
+        leg-dfu (suc k) (suc (suc k)) (suc k) k (suc k) n h (omega arith) h inside-dfu hn to
         (ap (λ (v : List ℕ). withPage P (suc k) v (mix P (suc (suc k)) D D′))
         (page-mix-left P (suc k) A A′ (im .active-same) (omega (arith, inside-active)) k (omega arith) ∙ sym (im .dfu-page k h))
         ∙ mix-down P (suc k) D D′ inside-dfu)
 
-    swap-active : Leg g N ((2 + t) * g .ws) n (toActive n k k) (at (suc k) (suc k) n) (at k (suc k) (suc n))
-    swap-active =
-        leg-active (suc k) k (suc k) k k n h (omega arith) (omega (arith, inside-dfu)) h hn
+    swap-active : active ≡ stepTo n → Leg g N ((2 + t) * g .ws) n (toActive n k k) (at (suc k) (suc k) n) (at k (suc k) (suc n))
+    swap-active to =
+        leg-active (suc k) k (suc k) k k n h (omega arith) (omega (arith, inside-dfu)) h hn to
         (ap (λ (v : List ℕ). withPage P k v (mix P (suc k) A A′))
         (page-mix-left P (suc k) D D′ (im .dfu-same) (omega (arith, inside-dfu)) k (omega arith) ∙ sym (im .active-page k h))
         ∙ mix-down P k A A′ inside-active)
 
-    revert-dfu : Leg g N ((2 + t) * g .ws) n (toDfu n k k) (at k k n) (at k (suc k) (suc n))
-    revert-dfu =
-        leg-dfu k k (suc k) k k n (omega arith) (omega arith) h (omega (arith, inside-dfu)) hn
+    revert-dfu : dfu ≡ stepTo n → Leg g N ((2 + t) * g .ws) n (toDfu n k k) (at k k n) (at k (suc k) (suc n))
+    revert-dfu to =
+        leg-dfu k k (suc k) k k n (omega arith) (omega arith) h (omega (arith, inside-dfu)) hn to
         (ap (λ (v : List ℕ). withPage P k v (mix P k D D′))
         (page-mix-right P k A A′ (im .active-same) (omega (arith, inside-active)) k (omega arith) ∙ im .active-page k h)
         ∙ mix-up P k D D′ (omega (arith, inside-dfu)))
 
-    revert-active : Leg g N ((2 + t) * g .ws) n (toActive n (suc k) k) (at k (suc k) n) (at (suc k) (suc k) (suc n))
-    revert-active =
-        leg-active k (suc k) (suc k) (suc k) k n (omega arith) (omega arith) inside-dfu h hn
+    revert-active : active ≡ stepTo n → Leg g N ((2 + t) * g .ws) n (toActive n (suc k) k) (at k (suc k) n) (at (suc k) (suc k) (suc n))
+    revert-active to =
+        leg-active k (suc k) (suc k) (suc k) k n (omega arith) (omega arith) inside-dfu h hn to
         (ap (λ (v : List ℕ). withPage P k v (mix P k A A′))
         (page-mix-right P (suc k) D D′ (im .dfu-same) (omega (arith, inside-dfu)) (suc k) (omega arith) ∙ im .dfu-page k h)
         ∙ mix-up P k A A′ inside-active)
 
   -- the whole swap, from page k - 1 down
-  pub swap-way : (k n z : ℕ) → k ≤ N → n + 2 * k ≡ z → z < t
+  pub swap-way : (k n z : ℕ) → n % 2 ≡ 0 → k ≤ N → n + 2 * k ≡ z → z < t
       → Way g N ((2 + t) * g .ws) n (at k (suc k) n) (swapFrom k n) (at 0 1 z)
   unfolding swapFrom
-  swap-way zero n z hk e hz = (table-reads 0 1 n hk (omega arith), ap (λ (i : ℕ). at 0 1 i) (omega arith))
-  swap-way (suc k) n z hk e hz =
-      let rest = swap-way k (suc (suc n)) z (omega arith) (omega arith) hz in
+  swap-way zero n z ev hk e hz = (table-reads 0 1 n hk (omega arith), ap (λ (i : ℕ). at 0 1 i) (omega arith))
+  swap-way (suc k) n z ev hk e hz =
+      let rest = swap-way k (suc (suc n)) z (omega arith) (omega arith) (omega arith) hz in
       subst (λ (cs : List Copy). Way g N ((2 + t) * g .ws) n (at (suc k) (suc (suc k)) n) cs (at 0 1 z)) (sym (swap-steps k n)) (
         at (suc k) (suc k) (suc n),
-        swap-dfu k hk n (omega arith),
-        (at k (suc k) (suc (suc n)), swap-active k hk (suc n) (omega arith), rest),
+        swap-dfu k hk n (omega arith) (sym (even-dfu n ev)),
+        (at k (suc k) (suc (suc n)), swap-active k hk (suc n) (omega arith) (odd-active n ev), rest),
       )
 
   -- the whole revert, from page k up
-  pub revert-way : (j k n z : ℕ) → k + j ≡ N → n + 2 * j ≡ z → z < t
+  pub revert-way : (j k n z : ℕ) → n % 2 ≡ 0 → k + j ≡ N → n + 2 * j ≡ z → z < t
       → Way g N ((2 + t) * g .ws) n (at k k n) (revertFrom j k n) (at N N z)
   unfolding revertFrom
-  revert-way zero k n z hk e hz =
+  revert-way zero k n z ev hk e hz =
       let a : k ≡ N = omega arith in
       let b : n ≡ z = omega arith in
       (table-reads k k n (omega arith) (omega arith), ap₂ (λ (i m : ℕ). at i i m) a b)
-  revert-way (suc j) k n z hk e hz =
-      let rest = revert-way j (suc k) (suc (suc n)) z (omega arith) (omega arith) hz in
+  revert-way (suc j) k n z ev hk e hz =
+      let rest = revert-way j (suc k) (suc (suc n)) z (omega arith) (omega arith) (omega arith) hz in
       subst (λ (cs : List Copy). Way g N ((2 + t) * g .ws) n (at k k n) cs (at N N z)) (sym (revert-steps j k n)) (
         at k (suc k) (suc n),
-        revert-dfu k (omega arith) n (omega arith),
-        (at (suc k) (suc k) (suc (suc n)), revert-active k (omega arith) (suc n) (omega arith), rest),
+        revert-dfu k (omega arith) n (omega arith) (sym (even-dfu n ev)),
+        (at (suc k) (suc k) (suc (suc n)), revert-active k (omega arith) (suc n) (omega arith) (odd-active n ev), rest),
       )

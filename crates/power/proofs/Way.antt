@@ -2,7 +2,7 @@
 -- flash, where one that is not cut does, and how many steps were gained. Cited by Swapped, Reverted and Settled. Assumes nothing.
 use mathlib.Core.Path.{_≡_, refl, sym, ap, _∙_, subst}
 use mathlib.Core.List.{List, [], _∷_, _++_}
-use Prim.Native.Nat.{ℕ, suc, _+_, _-_, _*_, _/_, _≤_, _<_, zero-le}
+use Prim.Native.Nat.{ℕ, suc, _+_, _-_, _/_, _≤_, _<_, zero-le}
 use native.Mathlib.Nat.{lt-of-not-le}
 use native.Mathlib.Decide.{decLe}
 use native.Mathlib.Omega.{arith}
@@ -15,9 +15,9 @@ use Rattle.geometry.specs.Geometry.{page, pages}
 use Rattle.mem_flash.specs.Flash.{Flash, Op, applyAll}
 use Rattle.rules.specs.StateArea.{readState, progress}
 use Rattle.rules.specs.Steps.{Copy, copyOps, onceOps, copiesOps, pageCount}
-use Rattle.rules.specs.Power.{stepCost}
+use Rattle.rules.specs.Power.{stepTo, nextCost}
 use Rattle.power.proofs.Areas.{apply-append, cut-first, cut-past, Image, state-placed, active-placed}
-use Rattle.power.proofs.Steps.{Fits, Near, near-refl, stepped, step-count, step-whole, step-cut}
+use Rattle.power.proofs.Steps.{Whole, Fits, Near, near-refl, stepped, next-count, step-whole, step-cut}
 
 -- ---- the way
 
@@ -32,6 +32,7 @@ pub record Reads (g : Geometry) (N S m : ℕ) (f : Flash) : Type 0 where
 pub record Leg (g : Geometry) (N S m : ℕ) (c : Copy) (f next : Flash) : Type 0 where
   pub reads : Reads g N S m f
   pub number : c .mark ≡ m
+  pub target : c .to ≡ stepTo m
   pub fits : Fits g c f
   pub leads : stepped g c f ≡ next
 
@@ -97,11 +98,11 @@ on-end g N S h (c ∷ cs) m f w = there (w .1 .number) (on-end g N S h cs (suc m
 -- ---- a run
 
 -- what a run of the operations os with a budget of k leaves, where r steps were left: it goes through to h; or it is stopped
--- on the way, with fewer steps left if k pays for one, and as many if not
+-- on the way, with fewer steps left if k pays for the next one, and as many if not
 pub data Outcome (g : Geometry) (N S : ℕ) (h : Flash) (m : ℕ) (cs : List Copy) (r : ℕ) (now : Flash) (k : ℕ)
     (os : List Op) : Type 0 where
-  through : length os ≤ k → applyAll os now ≡ h → (k < stepCost g → r ≡ 0) → Outcome g N S h m cs r now k os
-  stopped : (rest : ℕ) → k < length os → 0 < rest → rest ≤ r → (stepCost g ≤ k → rest < r) → (k < stepCost g → rest ≡ r)
+  through : length os ≤ k → applyAll os now ≡ h → (k < nextCost g now → r ≡ 0) → Outcome g N S h m cs r now k os
+  stopped : (rest : ℕ) → k < length os → 0 < rest → rest ≤ r → (nextCost g now ≤ k → rest < r) → (k < nextCost g now → rest ≡ r)
       → On g N S h (applyAll (take k os) now) m cs rest → Outcome g N S h m cs r now k os
 
 -- a step that is done already is passed over, and any other is done
@@ -131,7 +132,7 @@ outcome-there e (stopped rest l p b gain still on) = stopped rest l p b gain sti
 -- a step done, then a run of the rest
 outcome-past : (g : Geometry) (N S : ℕ) (h : Flash) (m : ℕ) (c : Copy) (cs : List Copy) (r : ℕ) (now next : Flash) (j : ℕ)
     (os ps : List Op)
-    → c .mark ≡ m → length os ≡ stepCost g → applyAll os now ≡ next → Outcome g N S h (suc m) cs r next j ps
+    → c .mark ≡ m → length os ≡ nextCost g now → applyAll os now ≡ next → Outcome g N S h (suc m) cs r next j ps
     → Outcome g N S h m (c ∷ cs) (suc r) now (length os + j) (os ++ ps)
 outcome-past g N S h m c cs r now next j os ps e n d (through l t still) =
     through (omega (arith, length-append os ps)) (apply-append os ps now ∙ ap (applyAll ps) d ∙ t) (λ x. absurd (omega arith))
@@ -139,7 +140,7 @@ outcome-past g N S h m c cs r now next j os ps e n d (stopped rest l p b gain st
     stopped rest (omega (arith, length-append os ps)) p (omega arith) (λ x. omega arith) (λ x. absurd (omega arith))
     (there e (subst (λ (x : Flash). On g N S h x (suc m) cs rest) (sym (cut-past j os ps now ∙ ap (applyAll (take j ps)) d)) on))
 
-module _ (g : Geometry) (whole : page g / g .b * g .b ≡ page g) (N S : ℕ) (h : Flash) where
+module _ (g : Geometry) (whole : Whole g) (N S : ℕ) (h : Flash) where
   run-here : (cs : List Copy) (m : ℕ) (f now : Flash) → Way g N S m f cs h → Close g cs f now → (k : ℕ)
       → Outcome g N S h m cs (length cs) now k (copiesOps g cs now)
   unfolding copiesOps applyAll
@@ -163,9 +164,15 @@ module _ (g : Geometry) (whole : page g / g .b * g .b ≡ page g) (N S : ℕ) (h
       leads : applyAll first now ≡ next
       leads = step-whole g whole c f (leg .fits) now near ∙ leg .leads
 
+      done : progress (g .ws) (now .state) ≡ m
+      done = near-reads g N S m c f now (leg .fits .image) near (leg .reads) .done
+
+      cost : length first ≡ nextCost g now
+      cost = next-count g m c now (leg .target) done
+
       whole-run : copiesOps g (c ∷ cs) now ≡ first ++ copiesOps g cs next
       whole-run =
-          copies-do g c cs now (omega (arith, near-reads g N S m c f now (leg .fits .image) near (leg .reads) .done, leg .number))
+          copies-do g c cs now (omega (arith, done, leg .number))
           ∙ ap (λ (x : Flash). first ++ copiesOps g cs x) leads
 
       go : Dec (length first ≤ k) → ((j : ℕ) → Outcome g N S h (suc m) cs (length cs) next j (copiesOps g cs next))
@@ -174,12 +181,12 @@ module _ (g : Geometry) (whole : page g / g .b * g .b ≡ page g) (N S : ℕ) (h
           let j : ℕ = k - length first in
           let e : length first + j ≡ k = omega arith in
           subst (λ (z : ℕ). Outcome g N S h m (c ∷ cs) (suc (length cs)) now z (first ++ copiesOps g cs next)) e
-          (outcome-past g N S h m c cs (length cs) now next j first (copiesOps g cs next) (leg .number) (step-count g c now) leads
+          (outcome-past g N S h m c cs (length cs) now next j first (copiesOps g cs next) (leg .number) cost leads
           (rest j))
       go (no l) rest =
           let short : k < length first = lt-of-not-le l in
           stopped (suc (length cs)) (omega (arith, length-append first (copiesOps g cs next))) (omega arith) (omega arith)
-          (λ x. absurd (omega (arith, step-count g c now))) (λ x. refl)
+          (λ x. absurd (omega (arith, cost))) (λ x. refl)
           (here f w
           (subst (λ (x : Flash). Near g c f x) (sym (cut-first k first (copiesOps g cs next) now (omega arith)))
           (step-cut g whole c f (leg .fits) now near k short)))

@@ -1,12 +1,16 @@
 -- The statement of specs/Power is not empty: the bench sheet's start meets its premises, and the tables there are the sheet's
--- cases a and f; case l is a flash without pages. Proved in proofs/Bench. Assumes nothing.
+-- cases a and f; case l is a flash without pages. The sheet has one erase unit to a page, so a start with several is here besides,
+-- with a cut inside the state's erase. Proved in proofs/Bench. Assumes nothing.
 use mathlib.Core.Path.{_≡_}
-use mathlib.Core.List.{[], _∷_, _++_}
-use Rattle.mem_flash.specs.Flash.{Flash}
+use mathlib.Core.List.{List, [], _∷_, _++_, map}
+use Rattle.state.specs.declared.State.the-variants.{Boot, Swap}
+use Rattle.geometry.specs.declared.Geometry.{Geometry}
+use Rattle.mem_flash.specs.Flash.{active, dfu, Flash}
 use Rattle.mem_flash.specs.Run.{flash}
 use Rattle.rules.specs.Steps.{pageCount}
-use Rattle.rules.specs.Power.{swapTable, reverted, revertedErased}
-use Rattle.rules.specs.Sheet.{sizes, fresh, pages, zeros, ff}
+use Rattle.rules.specs.Calls.{Report}
+use Rattle.rules.specs.Power.{swapTable, reverted, revertedPart, revertedErased, stateUnits, stepCost}
+use Rattle.rules.specs.Sheet.{Run, Case, boot, done, cut, sizes, fresh, pages, zeros, ff, computed, told}
 use Rattle.power.specs.Power.{Marked, Ready, Power, NoPages}
 
 -- the flash of case l
@@ -26,3 +30,30 @@ pub record OnTheBench : Type 0 where
   pub marked : Marked (sizes 3) noPages
   pub none : pageCount (sizes 3) noPages ≡ 0
   pub no-pages : NoPages (sizes 3) noPages
+
+-- two erase units to a page of active, four to the state area
+unfoldable pub fine : Geometry
+fine = record { ea = 2; wa = 2; ed = 4; wd = 2; es = 4; ws = 1; b = 2 }
+
+unfoldable pub fineCase : List Run → Report → Flash → Case
+fineCase runs r f = record { geometry = fine; start = fresh 15; runs = runs; answer = r; left = f }
+
+-- a swap of three steps of 4 operations and three of 5; a revert of as many, then the invalidation, four units and the magic
+unfoldable pub finely : List Case
+finely =
+    fineCase (boot 27 ∷ []) (done Swap 27) (swapTable fine (fresh 15))
+    ∷ fineCase (boot 27 ∷ boot 33 ∷ []) (done Swap 33) (reverted fine (fresh 15))
+    -- cut inside the state's erase, and the next boot
+    ∷ fineCase (boot 27 ∷ boot 29 ∷ []) (cut 29) (revertedPart fine 1 (fresh 15))
+    ∷ fineCase (boot 27 ∷ boot 29 ∷ boot 0 ∷ []) (done Boot 0) (revertedPart fine 1 (fresh 15))
+    ∷ []
+
+pub record InUnits : Type 0 where
+  pub ready : Ready fine (fresh 15)
+  pub to-dfu : stepCost fine dfu ≡ 4
+  pub to-active : stepCost fine active ≡ 5
+  pub units : stateUnits fine (fresh 15) ≡ 4
+  pub cases : map computed finely ≡ map told finely
+  pub part : revertedPart fine 1 (fresh 15)
+      ≡ flash (pages (1 ∷ 2 ∷ 3 ∷ [])) (pages (4 ∷ 5 ∷ 6 ∷ 3 ∷ [])) (ff 4 ++ (zeros 10 ++ ff 2))
+  pub power : Power fine (fresh 15)

@@ -4,7 +4,7 @@
 use mathlib.Core.Path.{_≡_}
 use mathlib.Core.Option.{some}
 use mathlib.Core.List.{List, [], _∷_}
-use Prim.Native.Nat.{ℕ, _+_, _*_, _<_}
+use Prim.Native.Nat.{ℕ, _+_, _-_, _*_, _≤_, _<_}
 use lib.ListN.{length}
 use Rattle.state.specs.declared.State.the-variants.{Boot, Swap}
 use Rattle.geometry.specs.declared.Geometry.{Geometry}
@@ -13,8 +13,8 @@ use Rattle.rules.specs.declared.Answer.{Answer}
 use Rattle.rules.specs.Steps.{pageCount}
 use Rattle.rules.specs.Calls.{reported, Did}
 use Rattle.rules.specs.Boot.{prepareBoot}
-use Rattle.rules.specs.Power.{swapTable, reverted, revertedErased, stepCost}
-use Rattle.power.specs.Power.{AllAtLeast, OneShort}
+use Rattle.rules.specs.Power.{swapTable, reverted, revertedPart, stateUnits, dearerCost}
+use Rattle.power.specs.Power.{AllAtLeast, Short, InErase}
 
 -- the answer is a cut
 abbrev pub IsCut : Answer → Type 0
@@ -39,10 +39,11 @@ pub record CodePower (g : Geometry) (f : Flash) : Type 0 where
       → (h′ ≡ swapTable g f) × (reported r .state ≡ some Swap)
   -- from there it leaves the revert's images
   pub reverts : {ks : List ℕ} {k : ℕ} {h h′ : Flash} {r : Answer} → Then g ks k (swapTable g f) h h′ r
-      → (OneShort g ks (swapTable g f) → ⊥) → (h′ ≡ reverted g f) × (reported r .state ≡ some Swap)
-  pub rests : {ks : List ℕ} {k : ℕ} {h h′ : Flash} {r : Answer} → Then g ks k (swapTable g f) h h′ r
-      → OneShort g ks (swapTable g f) → (h′ ≡ revertedErased g f) × (reported r .state ≡ some Boot)
-  -- and with a step's cost at each run it is not long in coming
-  pub swap-soon : {ks : List ℕ} {h : Flash} → AllAtLeast (stepCost g) ks → CutRuns g ks f h → length ks < 2 * pageCount g f
-  pub revert-soon : {ks : List ℕ} {h : Flash} → AllAtLeast (stepCost g) ks → CutRuns g ks (swapTable g f) h
-      → length ks < 2 * pageCount g f + 1
+      → (InErase g ks (swapTable g f) → ⊥) → (h′ ≡ reverted g f) × (reported r .state ≡ some Swap)
+  pub rests : {ks : List ℕ} {k : ℕ} {h h′ : Flash} {r : Answer} (n : ℕ) → Then g ks k (swapTable g f) h h′ r
+      → 1 ≤ n → n ≤ stateUnits g f → Short n g ks (swapTable g f)
+      → (h′ ≡ revertedPart g (stateUnits g f + 1 - n) f) × (reported r .state ≡ some Boot)
+  -- and with the dearer step's cost at each run it is not long in coming
+  pub swap-soon : {ks : List ℕ} {h : Flash} → AllAtLeast (dearerCost g) ks → CutRuns g ks f h → length ks < 2 * pageCount g f
+  pub revert-soon : {ks : List ℕ} {h : Flash} → AllAtLeast (dearerCost g) ks → CutRuns g ks (swapTable g f) h
+      → length ks < 2 * pageCount g f + 2

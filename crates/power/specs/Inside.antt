@@ -1,5 +1,5 @@
--- Where the operations of a boot lie: inside their area, erases from edge to edge of the area's erase units, writes of its write
--- units. So a boot that is not refused asks nothing of a chip that it could not do. Proved in proofs/Inside. Assumes nothing.
+-- Where the operations of a boot lie: inside their area, each erase on one erase unit of the area, writes from edge to edge of its
+-- write units. So a boot that is not refused asks nothing of a chip that it could not do. Proved in proofs/Inside. Assumes nothing.
 use mathlib.Core.Path.{_≡_}
 use mathlib.Core.List.{List, [], _∷_}
 use Prim.Native.Nat.{ℕ, _+_, _%_, _≤_}
@@ -27,7 +27,7 @@ pub record Aligned (unit from n size : ℕ) : Type 0 where
   pub inside : from + n ≤ size
 
 abbrev pub Within : Geometry → Flash → Op → Type 0
-Within g f (erase a from n) = Aligned (unitOf g a) from n (length (areaOf a f))
+Within g f (erase a from n) = (n ≡ unitOf g a) × Aligned (unitOf g a) from n (length (areaOf a f))
 Within g f (write a at bytes) = Aligned (writeUnit g a) at (length bytes) (length (areaOf a f))
 
 -- each operation of a list

@@ -3,20 +3,19 @@
 use mathlib.Core.Path.{_≡_}
 use mathlib.Core.Option.{some}
 use mathlib.Core.List.{List, [], _∷_}
-use Prim.Native.Nat.{ℕ, _+_, _*_, _≤_, _<_}
-use lib.ListN.{length, replicate}
+use Prim.Native.Nat.{ℕ, _+_, _-_, _*_, _≤_, _<_}
+use lib.ListN.{length}
 use Rattle.state.specs.declared.State.{State}
 use Rattle.state.specs.declared.State.the-variants.{Boot, Swap, Revert}
-use Rattle.state.specs.Magic.{erased}
 use Rattle.geometry.specs.declared.Geometry.{Geometry}
 use Rattle.geometry.specs.Geometry.{words}
 use Rattle.geometry.specs.Refusals.{bootRefusal}
-use Rattle.mem_flash.specs.Flash.{Flash}
-use Rattle.rules.specs.StateArea.{progress}
+use Rattle.mem_flash.specs.Flash.{dfu, Flash, blank}
+use Rattle.rules.specs.StateArea.{readState, progress}
 use Rattle.rules.specs.Steps.{pageCount}
 use Rattle.rules.specs.Calls.{Report, report, left}
 use Rattle.rules.specs.Boot.{prepareBoot}
-use Rattle.rules.specs.Power.{magicArea, Fresh, swapTable, reverted, revertedErased, stepCost}
+use Rattle.rules.specs.Power.{magicArea, Fresh, swapTable, reverted, revertMarks, revertedPart, revertedErased, stateUnits, stepCost, dearerCost, nextCost}
 
 -- ---- where the runs start
 
@@ -83,11 +82,15 @@ AllBelow n (k ∷ ks) = (k < n) × AllBelow n ks
 
 -- ---- the promise
 
--- the last of these runs was cut with one operation left to do: in a revert, after the state's erase and before the magic
-unfoldable pub OneShort : Geometry → List ℕ → Flash → Type 0
-OneShort g [] f = ⊥
-OneShort g (k ∷ []) f = k + 1 ≡ length (prepareBoot g f .ops)
-OneShort g (k ∷ j ∷ ks) f = OneShort g (j ∷ ks) (ran g k f)
+-- the last of these runs was cut with r operations left to do: in a revert that is inside the state's erase, or right after it,
+-- if r is at least 1 (the magic) and at most the number of the state's units
+unfoldable pub Short : ℕ → Geometry → List ℕ → Flash → Type 0
+Short r g [] f = ⊥
+Short r g (k ∷ []) f = k + r ≡ length (prepareBoot g f .ops)
+Short r g (k ∷ j ∷ ks) f = Short r g (j ∷ ks) (ran g k f)
+
+unfoldable pub InErase : Geometry → List ℕ → Flash → Type 0
+InErase g ks f = (r : ℕ) × (1 ≤ r) × (r ≤ stateUnits g f) × Short r g ks f
 
 -- the cut runs have reached the flash h, and the next one answers Boot with no operation
 pub record Rests (g : Geometry) (ks : List ℕ) (k : ℕ) (f h : Flash) : Type 0 where
@@ -100,22 +103,35 @@ pub record Power (g : Geometry) (f : Flash) : Type 0 where
   -- the first run that is not cut leaves the swap table
   pub swaps : (ks : List ℕ) (k : ℕ) → FirstWhole g ks k f → Ends g ks k f Swap (swapTable g f)
   -- from there the first run that is not cut leaves the revert's images, with the Revert magic
-  pub reverts : (ks : List ℕ) (k : ℕ) → FirstWhole g ks k (swapTable g f) → (OneShort g ks (swapTable g f) → ⊥)
+  pub reverts : (ks : List ℕ) (k : ℕ) → FirstWhole g ks k (swapTable g f) → (InErase g ks (swapTable g f) → ⊥)
       → Ends g ks k (swapTable g f) Swap (reverted g f)
-  -- or, if the last cut fell after the state's erase, with the state area erased
-  pub rests : (ks : List ℕ) (k : ℕ) → FirstWhole g ks k (swapTable g f) → OneShort g ks (swapTable g f)
-      → Rests g ks k (swapTable g f) (revertedErased g f)
-  -- with a step's cost at each run, the first that is not cut is at latest the 2N-th, and in the revert the (2N + 1)-th
-  pub swap-soon : (ks : List ℕ) → AllAtLeast (stepCost g) ks → AllCut g ks f → length ks < 2 * pageCount g f
-  pub revert-soon : (ks : List ℕ) → AllAtLeast (stepCost g) ks → AllCut g ks (swapTable g f) → length ks < 2 * pageCount g f + 1
-  -- a run of the swap that is cut gains a step exactly if it has a step's cost
-  pub swap-gains : (ks : List ℕ) (k : ℕ) → AllCut g ks f → Cut g k (runs g ks f) → stepCost g ≤ k
+  -- or, if the last cut fell inside the state's erase or after it, with the units erased that were, and the rest as they were
+  pub rests : (ks : List ℕ) (k r : ℕ) → FirstWhole g ks k (swapTable g f) → 1 ≤ r → r ≤ stateUnits g f → Short r g ks (swapTable g f)
+      → Rests g ks k (swapTable g f) (revertedPart g (stateUnits g f + 1 - r) f)
+  -- which, after the whole of the erase, is a state area all erased
+  pub erased-whole : revertedPart g (stateUnits g f) f ≡ revertedErased g f
+  -- with the dearer step's cost at each run, the first that is not cut is at latest the 2N-th, and in the revert the (2N + 2)-th
+  pub swap-soon : (ks : List ℕ) → AllAtLeast (dearerCost g) ks → AllCut g ks f → length ks < 2 * pageCount g f
+  pub revert-soon : (ks : List ℕ) → AllAtLeast (dearerCost g) ks → AllCut g ks (swapTable g f) → length ks < 2 * pageCount g f + 2
+  -- and the (2N + 1)-th, where a run that has a step's cost can also end the revert: invalidate, erase, write the magic
+  pub revert-sooner : (ks : List ℕ) → 2 + stateUnits g f ≤ dearerCost g → AllAtLeast (dearerCost g) ks → AllCut g ks (swapTable g f)
+      → length ks < 2 * pageCount g f + 1
+  -- a run of the swap that is cut gains a step exactly if it has the next step's cost
+  pub swap-gains : (ks : List ℕ) (k : ℕ) → AllCut g ks f → Cut g k (runs g ks f) → nextCost g (runs g ks f) ≤ k
       → progress (g .ws) (runs g ks f .state) < progress (g .ws) (ran g k (runs g ks f) .state)
-  pub swap-stays : (ks : List ℕ) (k : ℕ) → AllCut g ks f → Cut g k (runs g ks f) → k < stepCost g
+  pub swap-stays : (ks : List ℕ) (k : ℕ) → AllCut g ks f → Cut g k (runs g ks f) → k < nextCost g (runs g ks f)
       → progress (g .ws) (ran g k (runs g ks f) .state) ≡ progress (g .ws) (runs g ks f .state)
-  -- with one operation less, always, every run is cut and no step is gained
-  pub swap-never : (ks : List ℕ) → AllBelow (stepCost g) ks → AllCut g ks f × (progress (g .ws) (runs g ks f .state) ≡ 0)
-  pub revert-never : (ks : List ℕ) → AllBelow (stepCost g) ks
+  -- and so does a run of the revert that is cut with steps of it left, where the state area still reads Swap behind it
+  pub revert-gains : (ks : List ℕ) (k : ℕ) → AllCut g ks (swapTable g f) → Cut g k (runs g ks (swapTable g f))
+      → progress (g .ws) (runs g ks (swapTable g f) .state) < 4 * pageCount g f → nextCost g (runs g ks (swapTable g f)) ≤ k
+      → readState (g .ws) (ran g k (runs g ks (swapTable g f)) .state) ≡ Swap
+      → progress (g .ws) (runs g ks (swapTable g f) .state) < progress (g .ws) (ran g k (runs g ks (swapTable g f)) .state)
+  pub revert-stays : (ks : List ℕ) (k : ℕ) → AllCut g ks (swapTable g f) → Cut g k (runs g ks (swapTable g f))
+      → progress (g .ws) (runs g ks (swapTable g f) .state) < 4 * pageCount g f → k < nextCost g (runs g ks (swapTable g f))
+      → progress (g .ws) (ran g k (runs g ks (swapTable g f)) .state) ≡ progress (g .ws) (runs g ks (swapTable g f) .state)
+  -- with one operation less than the first step's cost, always, every run is cut and no step is gained
+  pub swap-never : (ks : List ℕ) → AllBelow (stepCost g dfu) ks → AllCut g ks f × (progress (g .ws) (runs g ks f .state) ≡ 0)
+  pub revert-never : (ks : List ℕ) → AllBelow (stepCost g dfu) ks
       → AllCut g ks (swapTable g f) × (progress (g .ws) (runs g ks (swapTable g f) .state) ≡ 2 * pageCount g f)
 
 -- ---- no pages: N = 0 counts as already swapped
@@ -124,11 +140,11 @@ pub record Power (g : Geometry) (f : Flash) : Type 0 where
 abbrev pub restated : List ℕ → Flash → Flash
 restated st f = record { active = f .active; dfu = f .dfu; state = st }
 
--- a freshly marked flash is the swap table; so the revert begins at once, in three operations, and touches no image
+-- a freshly marked flash is the swap table; so the revert begins at once, with its last operations, and touches no image
 pub record NoPages (g : Geometry) (f : Flash) : Type 0 where
   pub swapped : swapTable g f ≡ f
-  pub three : (k : ℕ) → 3 ≤ k → answer g k f ≡ record { number = 0; state = some Swap; count = 3 }
-  pub reverts : (ks : List ℕ) (k : ℕ) → FirstWhole g ks k f → (OneShort g ks f → ⊥)
+  pub at-once : (k : ℕ) → 2 + stateUnits g f ≤ k → answer g k f ≡ record { number = 0; state = some Swap; count = 2 + stateUnits g f }
+  pub reverts : (ks : List ℕ) (k : ℕ) → FirstWhole g ks k f → (InErase g ks f → ⊥)
       → Ends g ks k f Swap (restated (magicArea (g .ws) Revert (length (f .state))) f)
-  pub rests : (ks : List ℕ) (k : ℕ) → FirstWhole g ks k f → OneShort g ks f
-      → Rests g ks k f (restated (replicate (length (f .state)) erased) f)
+  pub rests : (ks : List ℕ) (k r : ℕ) → FirstWhole g ks k f → 1 ≤ r → r ≤ stateUnits g f → Short r g ks f
+      → Rests g ks k f (restated (blank ((stateUnits g f + 1 - r) * g .es) (revertMarks (g .ws) 0 (length (f .state)))) f)

@@ -45,11 +45,11 @@ unfoldable pub remembers : Sector → ℕ → Bool
 remembers None s = false
 remembers (At t) s = eqb t s
 
--- each piece: its sector erased unless it is the one last erased, and remembered; the piece written
+-- each piece: its sector, which is one unit, erased unless it is the one last erased, and remembered; the piece written
 unfoldable pub piecesOps : ℕ → Sector → List Piece → List Op
 piecesOps ed m [] = []
 piecesOps ed m (p ∷ ps) =
-    pick (remembers m (p .at / ed)) [] (eraseOps ed dfu (p .at / ed * ed) ed)
+    pick (remembers m (p .at / ed)) [] (erase dfu (p .at / ed * ed) ed ∷ [])
     ++ (write dfu (p .at) (p .bytes) ∷ piecesOps ed (At (p .at / ed)) ps)
 
 -- the memory after operations: set once an erase is done, and by nothing else
@@ -135,7 +135,7 @@ memory k z m offset bytes f =
     (remembered (z .ed) (take k (writeFirmware z m offset bytes f .ops)) m)
     m
 
--- prepare_update: one erase of all DFU; the memory stays as it is
+-- prepare_update: all of DFU erased; the memory stays as it is
 unfoldable pub prepareUpdate : Sizes → Flash → Call
 prepareUpdate z f =
     updaterCall z f (pending (z .ws) (f .state)) false none (eraseOps (z .ed) dfu 0 (length (f .dfu)))

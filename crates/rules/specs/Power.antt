@@ -2,15 +2,18 @@
 -- without running a step. Assumes nothing.
 use mathlib.Core.Path.{_≡_}
 use mathlib.Core.List.{List, _++_}
-use Prim.Native.Nat.{ℕ, _+_, _-_, _*_, _/_}
+use Prim.Native.Nat.{ℕ, _+_, _-_, _*_, _/_, _%_, max}
+use lib.Dec.{eqb}
 use lib.ListN.{length, take, drop, replicate}
 use Rattle.state.specs.declared.State.{State}
 use Rattle.state.specs.declared.State.the-variants.{Swap, Revert}
+use Rattle.state.specs.Choice.{pick}
 use Rattle.state.specs.Magic.{erased, marked, magic}
 use Rattle.geometry.specs.declared.Geometry.{Geometry}
 use Rattle.geometry.specs.Geometry.{page}
-use Rattle.mem_flash.specs.Flash.{Flash}
-use Rattle.rules.specs.Steps.{pageCount}
+use Rattle.mem_flash.specs.Flash.{Area, active, dfu, Flash, blank}
+use Rattle.rules.specs.StateArea.{progress}
+use Rattle.rules.specs.Steps.{pageCount, unitOf}
 
 -- a state area of n bytes: a magic in every byte of word 0, every other byte erased
 unfoldable pub magicArea : ℕ → State → ℕ → List ℕ
@@ -52,13 +55,40 @@ revertImages g st f =
       state = st;
     }
 
--- the state area after the revert: Revert's magic; or all erased, where a cut fell after the state's erase
+-- the state area after the revert: Revert's magic
 unfoldable pub reverted : Geometry → Flash → Flash
 reverted g f = revertImages g (magicArea (g .ws) Revert (length (f .state))) f
 
+-- or all erased, where a cut fell after the state's erase
 unfoldable pub revertedErased : Geometry → Flash → Flash
 revertedErased g f = revertImages g (replicate (length (f .state)) erased) f
 
--- what a run needs to gain a step: the page's erase, its chunks and the mark
-unfoldable pub stepCost : Geometry → ℕ
-stepCost g = page g / g .b + 2
+-- the state area of n bytes when the revert of `count` pages begins to erase it: invalid, every mark of swap and revert done
+unfoldable pub revertMarks : ℕ → ℕ → ℕ → List ℕ
+revertMarks ws count n =
+    replicate ws (magic Swap) ++ (replicate ((1 + 4 * count) * ws) marked ++ replicate (n - (2 + 4 * count) * ws) erased)
+
+-- or, where a cut fell inside the state's erase, its first units erased and the rest as they were
+unfoldable pub revertedPart : Geometry → ℕ → Flash → Flash
+revertedPart g units f =
+    revertImages g (blank (units * g .es) (revertMarks (g .ws) (pageCount g f) (length (f .state)))) f
+
+-- the erase units of the state area
+unfoldable pub stateUnits : Geometry → Flash → ℕ
+stateUnits g f = length (f .state) / g .es
+
+-- what a run needs to gain a step: the units of the target's page, its chunks and the mark
+unfoldable pub stepCost : Geometry → Area → ℕ
+stepCost g a = page g / unitOf g a + page g / g .b + 1
+
+-- the dearer of the two
+unfoldable pub dearerCost : Geometry → ℕ
+dearerCost g = max (stepCost g dfu) (stepCost g active)
+
+-- step i, of the swap or the revert, writes DFU if i is even, and active if it is odd
+unfoldable pub stepTo : ℕ → Area
+stepTo i = pick (eqb (i % 2) 0) dfu active
+
+-- what the next step of a flash costs
+unfoldable pub nextCost : Geometry → Flash → ℕ
+nextCost g f = stepCost g (stepTo (progress (g .ws) (f .state)))

@@ -24,14 +24,14 @@ pub invalidated : (k ws : ℕ) (st st′ : List ℕ) (r : Flow) → InArea k (wr
 unfolding invalidateOp marked
 invalidated k ws st st′ r w = in-state k _ st st′ r w
 
-module _ (k ws m : ℕ) (st st₁ : List ℕ) (r : Flow) (w : (unit : ℕ) → InArea k (λ a. eraseOps unit a 0 (length st - 0)) st st₁ r) where
-  erases : (es : ℕ) → InArea k (λ a. eraseOps es a 0 (length st)) st st₁ r
-  erases es = rw (sub-zero (length st)) at (w es)
+module _ (k es ws m : ℕ) (st st₁ : List ℕ) (r : Flow) (w : InArea k (λ a. eraseOps es a 0 (length st - 0)) st st₁ r) where
+  erases : InArea k (λ a. eraseOps es a 0 (length st)) st st₁ r
+  erases = rw (sub-zero (length st)) at w
 
-  pub renew-cut : r ≡ Cut → Renewed k ws m st st₁ Cut
+  pub renew-cut : r ≡ Cut → Renewed k es ws m st st₁ Cut
   unfolding renewOps magicOp
-  renew-cut o es = in-state k _ st st₁ Cut (area-cut k _ st st₁ r (erases es) (writeOps 0 (replicate ws m)) o)
+  renew-cut o = in-state k _ st st₁ Cut (area-cut k _ st st₁ r erases (writeOps 0 (replicate ws m)) o)
 
-  pub renew-on : (l : Budget) (st₂ : List ℕ) (q : Flow) → r ≡ On l → InArea (l .0) (writeOps 0 (replicate ws m)) st₁ st₂ q → Renewed k ws m st st₂ q
+  pub renew-on : (l : Budget) (st₂ : List ℕ) (q : Flow) → r ≡ On l → InArea (l .0) (writeOps 0 (replicate ws m)) st₁ st₂ q → Renewed k es ws m st st₂ q
   unfolding renewOps magicOp
-  renew-on l st₂ q o v es = in-state k _ st st₂ q (area-on k _ st st₁ r (erases es) (writeOps 0 (replicate ws m)) l st₂ q o v)
+  renew-on l st₂ q o v = in-state k _ st st₂ q (area-on k _ st st₁ r erases (writeOps 0 (replicate ws m)) l st₂ q o v)

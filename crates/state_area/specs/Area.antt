@@ -17,6 +17,6 @@ InState k ops st st′ r = (a d : List ℕ) → run k ops (flash a d st) ≡ end
 abbrev pub Invalidated : ℕ → ℕ → List ℕ → List ℕ → Flow → Type 0
 Invalidated k ws st st′ r = InState k (invalidateOp ws ∷ []) st st′ r
 
--- the area erased and a magic written, whatever its erase unit es
-abbrev pub Renewed : ℕ → ℕ → ℕ → List ℕ → List ℕ → Flow → Type 0
-Renewed k ws m st st′ r = (es : ℕ) → InState k (renewOps es ws (length st) m) st st′ r
+-- the area erased and a magic written
+abbrev pub Renewed : ℕ → ℕ → ℕ → ℕ → List ℕ → List ℕ → Flow → Type 0
+Renewed k es ws m st st′ r = InState k (renewOps es ws (length st) m) st st′ r

@@ -98,11 +98,11 @@ pub fn invalidate(state: &mut [u8], ws: usize, left: Budget) -> Flow
 }
 
 // Erases the whole area, magic and progress, and writes a magic.
-pub fn renew(state: &mut [u8], ws: usize, magic: u8, left: Budget) -> Flow
-    ensures { λ r. ⌜ Renewed (left .0) ws magic (now (state .entry)) (now (state .exit)) r ⌝ }
+pub fn renew(state: &mut [u8], es: usize, ws: usize, magic: u8, left: Budget) -> Flow
+    ensures { λ r. ⌜ Renewed (left .0) es ws magic (now (state .entry)) (now (state .exit)) r ⌝ }
 {
     let n = state.len();
-    let Flow::On(rest) = mem_flash::erase(state, Offset(0), Offset(n), left) else {
+    let Flow::On(rest) = mem_flash::erase(state, Offset(0), Offset(n), es, left) else {
         return Flow::Cut;
     };
     mem_flash::write_word(state, Offset(0), magic, ws, rest)

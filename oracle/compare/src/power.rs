@@ -33,9 +33,9 @@ pub fn tables(judge: &mut Judge, random: &mut Random) {
     for (side, shape) in shapes() {
         for round in 0..4 {
             let start = shape.bench(random, states::fresh(&shape));
-            let cost = shape.page() / shape.geometry.b as usize + 2;
-            // by turns any budgets at all, and always at least a step's cost
-            let least = if round % 2 == 0 { 0 } else { cost };
+            let dearer = shape.costs().0.max(shape.costs().1);
+            // by turns any budgets at all, and always at least the dearer step's cost
+            let least = if round % 2 == 0 { 0 } else { dearer };
             let (swapped, runs, answer) = until_done(judge, random, side, &shape, &start, least);
             expect(answer == 1, "the swap answers Swap", &shape);
             expect(swapped == swap_table(&shape, &start), "the swap table", &shape);
@@ -45,9 +45,15 @@ pub fn tables(judge: &mut Judge, random: &mut Random) {
             expect(answer <= 1, "the revert answers Swap, or Boot after the erase", &shape);
             let (active, dfu) = revert_images(&shape, &start);
             expect((&reverted.active, &reverted.dfu) == (&active, &dfu), "the revert's images", &shape);
-            let label = if answer == 1 { 0xC0 } else { 0xFF };
-            expect(reverted.state == states::only_magic(&shape, label), "the state after a revert", &shape);
-            expect(least == 0 || runs <= 2 * shape.pages() + 1, "2N + 1 runs for the revert", &shape);
+            let states =
+                if answer == 1 { vec![states::only_magic(&shape, 0xC0)] } else { broken_off(&shape) };
+            expect(states.contains(&reverted.state), "the state after a revert", &shape);
+            let most = if 2 + shape.state_units() <= dearer { 1 } else { 2 };
+            expect(
+                least == 0 || runs <= 2 * shape.pages() + most,
+                "2N + 1 or 2N + 2 runs for the revert",
+                &shape,
+            );
         }
     }
 }
@@ -62,7 +68,7 @@ fn until_done(
     least: usize,
 ) -> (Bench, usize, u8) {
     let mut bench = start.clone();
-    let cost = shape.page() / shape.geometry.b as usize + 2;
+    let cost = shape.costs().0.max(shape.costs().1);
     let mut runs = 0;
     loop {
         // the least budget often: those runs are the slowest
@@ -94,18 +100,39 @@ fn revert_images(shape: &Shape, start: &Bench) -> (Vec<u8>, Vec<u8>) {
     (start.active.clone(), dfu)
 }
 
-/// With one operation less than a step's cost, always, no step is gained.
+/// The state areas that a cut inside the state's erase, or right after it, leaves: the first units erased, one at
+/// least, and the rest as the revert's marks and the invalidation left them.
+fn broken_off(shape: &Shape) -> Vec<Vec<u8>> {
+    let (n, w) = (shape.pages(), shape.word());
+    let mut marked = states::fresh(shape);
+    marked[w..(2 + 4 * n) * w].fill(0);
+    let erased = |units: usize| {
+        let mut state = marked.clone();
+        state[..units * shape.geometry.es as usize].fill(0xFF);
+        state
+    };
+    (1..=shape.state_units()).map(erased).collect()
+}
+
+/// With one operation less than the first step's cost, always, no step is gained; nor by a run that has one less
+/// than its next step's.
 pub fn no_step_gained(judge: &mut Judge, random: &mut Random) {
     for (side, shape) in shapes() {
         let start = shape.bench(random, states::fresh(&shape));
         let mut bench = start.clone();
-        let cost = shape.page() / shape.geometry.b as usize + 2;
-        let call = Call { budget: cost as u32 - 1, ..boot(shape.geometry) };
+        let (to_dfu, to_active) = shape.costs();
+        let short = |cost: usize| Call { budget: cost as u32 - 1, ..boot(shape.geometry) };
         for _ in 0..5 {
-            judge.call(Some(side), &call, &bench);
+            judge.call(Some(side), &short(to_dfu), &bench);
             bench.clone_from(judge.expected());
         }
         expect(bench.state == start.state, "one operation less gains no step", &shape);
+        judge.call(Some(side), &Call { budget: to_dfu as u32, ..boot(shape.geometry) }, &bench);
+        bench.clone_from(judge.expected());
+        let first = bench.state.clone();
+        expect(first != start.state, "the cost of a step to DFU gains it", &shape);
+        judge.call(Some(side), &short(to_active), &bench);
+        expect(judge.expected().state == first, "one operation less gains no step to active", &shape);
     }
 }
 

@@ -35,6 +35,18 @@ impl Shape {
         self.ls / self.word()
     }
 
+    /// What a step to DFU and a step to active cost: the page's erase units, its chunks and the mark.
+    pub fn costs(&self) -> (usize, usize) {
+        let g = &self.geometry;
+        let cost = |unit: u32| self.page() / unit as usize + self.page() / g.b as usize + 1;
+        (cost(g.ed), cost(g.ea))
+    }
+
+    /// The erase units of the state area.
+    pub fn state_units(&self) -> usize {
+        self.ls / self.geometry.es as usize
+    }
+
     /// Random images around a given state area.
     pub fn bench(&self, random: &mut Random, state: Vec<u8>) -> Bench {
         Bench {

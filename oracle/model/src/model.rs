@@ -3,7 +3,7 @@
 //!
 //! The model can be told to err in one named way (`Wrong`): that is how the comparison itself is tested.
 
-use call::{Answers, CUT, Call, DONE, Kind, Lent, NO_SECTOR, NO_STATE, pack};
+use call::{Answers, CUT, Call, DONE, Geometry, Kind, Lent, NO_SECTOR, NO_STATE, pack};
 
 use crate::table::{self, Lengths};
 
@@ -44,10 +44,13 @@ pub enum Wrong {
     InvalidOnlyByZero,
     ErasedSectorNotErased,
     PageWrittenAtOnce,
+    EraseIsOneOperation,
+    UnitsFalling,
+    UnitsOfTheOtherImage,
 }
 
 impl Wrong {
-    pub const ALL: [(&'static str, Wrong); 33] = [
+    pub const ALL: [(&'static str, Wrong); 36] = [
         ("low-pages-first", Wrong::LowPagesFirst),
         ("revert-high-pages-first", Wrong::RevertHighPagesFirst),
         ("count-one-more", Wrong::CountOneMore),
@@ -81,6 +84,9 @@ impl Wrong {
         ("invalid-only-by-zero", Wrong::InvalidOnlyByZero),
         ("erased-sector-not-erased", Wrong::ErasedSectorNotErased),
         ("page-written-at-once", Wrong::PageWrittenAtOnce),
+        ("erase-is-one-operation", Wrong::EraseIsOneOperation),
+        ("units-falling", Wrong::UnitsFalling),
+        ("units-of-the-other-image", Wrong::UnitsOfTheOtherImage),
     ];
 
     pub fn named(name: &str) -> Option<Wrong> {
@@ -134,6 +140,7 @@ struct Run {
     active: Vec<u8>,
     dfu: Vec<u8>,
     state: Vec<u8>,
+    geometry: Geometry,
     word: usize,
     operations: Vec<Operation>,
 }
@@ -275,6 +282,7 @@ impl Model {
             active: lent.active.to_vec(),
             dfu: lent.dfu.to_vec(),
             state: lent.state.to_vec(),
+            geometry: call.geometry,
             word: call.geometry.ws as usize,
             operations: Vec::new(),
         };
@@ -344,8 +352,24 @@ impl Run {
         self.operations.push(operation);
     }
 
+    /// Each erase unit of the stretch is an operation, in rising order.
     fn erase(&mut self, area: Area, from: usize, length: usize) {
-        self.perform(Operation::Erase { area, from, length });
+        let unit = self.unit(area, length);
+        for i in 0..length / unit {
+            let place = if self.wrong == Wrong::UnitsFalling { length / unit - 1 - i } else { i };
+            self.perform(Operation::Erase { area, from: from + place * unit, length: unit });
+        }
+    }
+
+    fn unit(&self, area: Area, length: usize) -> usize {
+        let g = &self.geometry;
+        let unit = match (area, self.wrong) {
+            (_, Wrong::EraseIsOneOperation) => length.max(1) as u32,
+            (Area::Active, Wrong::UnitsOfTheOtherImage) | (Area::Dfu, _) => g.ed,
+            (Area::Active, _) => g.ea,
+            (Area::State, _) => g.es,
+        };
+        unit as usize
     }
 
     fn write(&mut self, area: Area, at: usize, bytes: Vec<u8>) {

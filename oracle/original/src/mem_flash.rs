@@ -1,7 +1,7 @@
 //! The flash of document 01: the crate's test flash, altered.
 //!
-//! A write leaves old AND new and doesn't ask for erased bytes; erases count as well as writes; one budget is
-//! shared by all areas. An operation wanted when the budget is used up is an error and changes nothing. The
+//! A write leaves old AND new and doesn't ask for erased bytes; erases count as well as writes, each erase unit
+//! by itself, in rising order; one budget is shared by all areas. An operation wanted when the budget is used up is an error and changes nothing. The
 //! range assertions stay. The area is a lent slice, so that only erase and write size are constants.
 
 use std::cell::Cell;
@@ -139,9 +139,9 @@ impl<const ERASE: usize, const WRITE: usize> NorFlash for MemFlash<'_, ERASE, WR
         let (from, to) = (from as usize, to as usize);
         assert!(from.is_multiple_of(ERASE), "erase from {from}, erase size {ERASE}");
         assert!(to.is_multiple_of(ERASE), "erase to {to}, erase size {ERASE}");
-        self.supply.take(Operation::Erase)?;
-        for i in from..to {
-            self.mem[i] = 0xFF;
+        for unit in (from..to).step_by(ERASE) {
+            self.supply.take(Operation::Erase)?;
+            self.mem[unit..unit + ERASE].fill(0xFF);
         }
         Ok(())
     }
@@ -176,10 +176,18 @@ mod tests {
     }
 
     #[test]
-    fn an_erase_of_nothing_counts() {
+    fn an_erase_of_nothing_does_not_count() {
         let supply = Supply::new(1);
         let mut mem = [];
         MemFlash::<4, 1>::new(&mut mem, &supply).erase(0, 0).unwrap();
-        assert_eq!(supply.left.get(), 0);
+        assert_eq!(supply.left.get(), 1);
+    }
+
+    #[test]
+    fn each_unit_counts_in_rising_order() {
+        let supply = Supply::new(2);
+        let mut mem = [0; 6];
+        assert!(MemFlash::<2, 1>::new(&mut mem, &supply).erase(0, 6).is_err());
+        assert_eq!(mem, [0xFF, 0xFF, 0xFF, 0xFF, 0, 0]);
     }
 }

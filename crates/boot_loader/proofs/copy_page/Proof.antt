@@ -29,7 +29,7 @@ same-length c = search needs
 
 -- src/lib.rt:336:9
 returns : tie.Need-returns
-returns c = let a = c .before .before .before .before .before .before .before .before .before .args in fill-cut _ (a .to .0) (a .from .0) (a .page-size) (a .b) (a .source .now) _ _ _ (c .before .before .before .before .erase .ensures) (c .enum-told .given .1)
+returns c = let a = c .before .before .before .before .before .before .before .before .before .args in fill-cut _ (a .unit) (a .to .0) (a .from .0) (a .page-size) (a .b) (a .source .now) _ _ _ (c .before .before .before .before .erase .ensures) (c .enum-told .given .1)
 
 -- src/lib.rt:338:43
 div-copy-chunks : tie.Need-div-copy-chunks
@@ -45,7 +45,7 @@ same-length-2 c = search needs
 
 -- src/lib.rt:322:1
 returns-2 : tie.Need-returns-2
-returns-2 c = let a = c .before .before .before .before .before .before .before .before .before .before .before .before .before .before .args in fill-on _ (a .to .0) (a .from .0) (a .page-size) (a .b) (a .source .now) _ _ _ (c .before .before .before .before .before .before .before .before .before .erase .ensures) _ _ _ (c .before .before .before .before .before .rest .given .1) (c .before .before .copy-chunks .ensures)
+returns-2 c = let a = c .before .before .before .before .before .before .before .before .before .before .before .before .before .before .args in fill-on _ (a .unit) (a .to .0) (a .from .0) (a .page-size) (a .b) (a .source .now) _ _ _ (c .before .before .before .before .before .before .before .before .before .erase .ensures) _ _ _ (c .before .before .before .before .before .rest .given .1) (c .before .before .copy-chunks .ensures)
 
 pub copy-page-spec : {M : Type 1} → statement M
 copy-page-spec =

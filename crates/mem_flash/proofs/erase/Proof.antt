@@ -1,38 +1,39 @@
-use mathlib.Core.Path.{_∙_}
-use Rattle.mem_flash.proofs.Bytes.{erase-clip}
-use Rattle.mem_flash.proofs.Runs.{cut-erase, on-erase}
+use Prim.Native.Nat.{_-_}
+use native.Mathlib.Nat.{div-mul-le-self}
+use native.Mathlib.Omega.{arith}
+use Rattle.mem_flash.proofs.Runs.{erase-unitless, erase-nothing, erase-all}
 use borrow.Author.Needs.{needs}
 use Rattle.mem_flash.proofs.erase.Statement.{statement}
 use Rattle.mem_flash.proofs.erase.Tie as tie
 use Rattle.mem_flash.proofs.erase.Reads as reads
 use Rattle.mem_flash.proofs.erase.Lts as lts
-use Rattle.mem_flash.proofs.fill.Reads as fill-reads
-use Rattle.mem_flash.proofs.least.Reads as least-reads
+use Rattle.mem_flash.proofs.erase_units.Reads as erase-units-reads
 
--- src/lib.rt:70:9
+-- src/lib.rt:97:9
 returns : tie.Need-returns
-returns c = cut-erase _ _ _ _ (c .if1 .taken)
+returns c = erase-unitless _ _ _ _ _ (c .if1 .taken)
 
--- src/lib.rt:72:9
-least-requires : tie.Need-least-requires
-least-requires c κs = search needs
+-- src/lib.rt:100:9
+returns-2 : tie.Need-returns-2
+returns-2 c = erase-nothing _ _ _ _ _ (omega (arith, c .if2 .taken))
 
--- src/lib.rt:73:5
-fill-requires : tie.Need-fill-requires
-fill-requires c κs = search needs
+-- src/lib.rt:102:31
+div-erase-units : tie.Need-div-erase-units
+div-erase-units c = search needs
 
--- src/lib.rt:74:21
-sub-t12 : tie.Need-sub-t12
-sub-t12 c = search needs
+-- src/lib.rt:102:5
+erase-units-requires : tie.Need-erase-units-requires
+erase-units-requires c κs = let a = c .before .before .before .before .before .before .before .before .args in omega (arith, div-mul-le-self (a .to .0 - a .from .0) (a .unit), c .before .before .before .if2 .left)
 
--- src/lib.rt:65:1
+-- src/lib.rt:93:1
 same-length : tie.Need-same-length
 same-length c = search needs
 
--- src/lib.rt:65:1
-returns-2 : tie.Need-returns-2
-returns-2 c = on-erase _ _ _ (search needs) _ _ (c .before .before .fill .ensures ∙ erase-clip _ _ _ _ (c .before .before .before .before .least .ensures))
+-- src/lib.rt:93:1
+returns-3 : tie.Need-returns-3
+returns-3 c = let a = c .before .before .before .before .before .before .before .before .before .before .before .args in erase-all _ (a .unit) (a .from .0) (a .to .0 - a .from .0) _ _ _ (c .before .before .erase-units .ensures)
 
 pub erase-spec : {M : Type 1} → statement M
 erase-spec =
-    tie.close (tie.spec returns least-requires fill-requires sub-t12 same-length returns-2)
+    tie.close
+    (tie.spec returns returns-2 div-erase-units erase-units-requires same-length returns-3)

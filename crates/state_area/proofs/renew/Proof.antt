@@ -25,7 +25,7 @@ same-length c = search needs
 
 -- src/lib.rt:63:9
 returns : tie.Need-returns
-returns c = let a = c .before .before .before .before .before .before .before .args in renew-cut _ (a .ws) (a .magic) (a .state .now) _ _ (c .before .before .before .before .erase .ensures) (c .enum-told .given .1)
+returns c = let a = c .before .before .before .before .before .before .before .args in renew-cut _ (a .es) (a .ws) (a .magic) (a .state .now) _ _ (c .before .before .before .before .erase .ensures) (c .enum-told .given .1)
 
 -- src/lib.rt:65:5
 write-word-requires : tie.Need-write-word-requires
@@ -37,7 +37,7 @@ same-length-2 c = search needs
 
 -- src/lib.rt:58:1
 returns-2 : tie.Need-returns-2
-returns-2 c = let a = c .before .before .before .before .before .before .before .before .before .before .before .before .args in renew-on _ (a .ws) (a .magic) (a .state .now) _ _ (c .before .before .before .before .before .before .before .before .before .erase .ensures) _ _ _ (c .before .before .before .before .before .rest .given .1) (c .before .before .write-word .ensures)
+returns-2 c = let a = c .before .before .before .before .before .before .before .before .before .before .before .before .args in renew-on _ (a .es) (a .ws) (a .magic) (a .state .now) _ _ (c .before .before .before .before .before .before .before .before .before .erase .ensures) _ _ _ (c .before .before .before .before .before .rest .given .1) (c .before .before .write-word .ensures)
 
 pub renew-spec : {M : Type 1} → statement M
 renew-spec =

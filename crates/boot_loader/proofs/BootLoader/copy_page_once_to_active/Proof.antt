@@ -32,9 +32,12 @@ page-offset-requires-2 c κs = omega (arith, times-in _ _ _ _ (c .before .before
 cast-copy-page : tie.Need-cast-copy-page
 cast-copy-page c = search needs
 
+cast-copy-page-2 : tie.Need-cast-copy-page-2
+cast-copy-page-2 c = search needs
+
 -- src/lib.rt:168:34
 copy-page-requires : tie.Need-copy-page-requires
-copy-page-requires c κs = let p = c .before .before .before .before .before .before .before .before .before .before .before .before .pre in let e = c .before .before .before .before .page-size .ensures in (p .chunk, chunks-in _ _ _ e (p .chunks), page-in _ _ _ _ _ e (c .before .before .page-offset .ensures) (p .target), page-in _ _ _ _ _ e (c .before .page-offset2 .ensures) (p .source))
+copy-page-requires c κs = let p = c .before .before .before .before .before .before .before .before .before .before .before .before .before .pre in let e = c .before .before .before .before .before .page-size .ensures in (p .chunk, chunks-in _ _ _ e (p .chunks), page-in _ _ _ _ _ e (c .before .before .before .page-offset .ensures) (p .target), page-in _ _ _ _ _ e (c .before .before .page-offset2 .ensures) (p .source))
 
 -- src/lib.rt:168:26
 enum-known-rest : tie.Need-enum-known-rest
@@ -54,11 +57,11 @@ same-length-2 c = search needs
 
 -- src/lib.rt:177:17
 returns : tie.Need-returns
-returns c = active-cut _ _ _ _ _ _ _ _ _ (c .before .before .before .before .before .before .before .before .before .before .before .before .current-progress .ensures) _ _ _ (c .before .before .before .before .before .before .before .before .before .page-size .ensures) (c .before .before .before .before .before .before .before .page-offset .ensures) (c .before .before .before .before .before .before .page-offset2 .ensures) _ _ (c .before .before .before .before .before .before .before .before .before .before .before .if1 .taken) (c .before .before .before .before .copy-page .ensures) (c .enum-told .given .1)
+returns c = active-cut _ _ _ _ _ _ _ _ _ (c .before .before .before .before .before .before .before .before .before .before .before .before .before .current-progress .ensures) _ _ _ (c .before .before .before .before .before .before .before .before .before .before .page-size .ensures) (c .before .before .before .before .before .before .before .before .page-offset .ensures) (c .before .before .before .before .before .before .before .page-offset2 .ensures) _ _ (c .before .before .before .before .before .before .before .before .before .before .before .before .if1 .taken) (c .before .before .before .before .copy-page .ensures) (c .enum-told .given .1)
 
 -- src/lib.rt:179:13
 update-progress-requires : tie.Need-update-progress-requires
-update-progress-requires c κs = let p = c .before .before .before .before .before .before .before .before .before .before .before .before .before .before .before .before .before .before .before .pre in (omega (arith, p .mark, c .before .before .before .before .before .before .before .before .before .before .before .before .before .before .before .before .before .before .before .good), omega (arith, word-in _ _ _ (p .word) (p .mark), c .before .before .before .before .before .before .before .before .before .before .before .before .before .before .before .before .before .before .before .good))
+update-progress-requires c κs = let p = c .before .before .before .before .before .before .before .before .before .before .before .before .before .before .before .before .before .before .before .before .pre in (omega (arith, p .mark, c .before .before .before .before .before .before .before .before .before .before .before .before .before .before .before .before .before .before .before .before .good), omega (arith, word-in _ _ _ (p .word) (p .mark), c .before .before .before .before .before .before .before .before .before .before .before .before .before .before .before .before .before .before .before .before .good))
 
 -- src/lib.rt:179:13
 same-length-3 : tie.Need-same-length-3
@@ -70,7 +73,7 @@ same-length-4 c = search needs
 
 -- src/lib.rt:179:13
 returns-2 : tie.Need-returns-2
-returns-2 c = active-on _ _ _ _ _ _ _ _ _ (c .before .before .before .before .before .before .before .before .before .before .before .before .before .before .before .before .before .current-progress .ensures) _ _ _ (c .before .before .before .before .before .before .before .before .before .before .before .before .before .before .page-size .ensures) (c .before .before .before .before .before .before .before .before .before .before .before .before .page-offset .ensures) (c .before .before .before .before .before .before .before .before .before .before .before .page-offset2 .ensures) _ _ (c .before .before .before .before .before .before .before .before .before .before .before .before .before .before .before .before .if1 .taken) _ _ _ (c .before .before .before .before .before .before .before .before .before .copy-page .ensures) (c .before .before .before .before .before .rest .given .1) (c .before .before .update-progress .ensures)
+returns-2 c = active-on _ _ _ _ _ _ _ _ _ (c .before .before .before .before .before .before .before .before .before .before .before .before .before .before .before .before .before .before .current-progress .ensures) _ _ _ (c .before .before .before .before .before .before .before .before .before .before .before .before .before .before .before .page-size .ensures) (c .before .before .before .before .before .before .before .before .before .before .before .before .before .page-offset .ensures) (c .before .before .before .before .before .before .before .before .before .before .before .before .page-offset2 .ensures) _ _ (c .before .before .before .before .before .before .before .before .before .before .before .before .before .before .before .before .before .if1 .taken) _ _ _ (c .before .before .before .before .before .before .before .before .before .copy-page .ensures) (c .before .before .before .before .before .rest .given .1) (c .before .before .update-progress .ensures)
 
 -- src/lib.rt:149:5
 same-length-5 : tie.Need-same-length-5
@@ -89,6 +92,7 @@ copy-page-once-to-active-spec =
     page-offset-requires
     page-offset-requires-2
     cast-copy-page
+    cast-copy-page-2
     copy-page-requires
     enum-known-rest
     enum-told

@@ -67,6 +67,9 @@ returns-2 : tie.Need-returns-2
 returns-2 c = revert-cut _ _ _ _ _ _ _ _ _ _ (c .before .before .before .before .before .before .before .before .before .before .before .before .before .is-swapped .ensures) (not-false _ (c .before .before .before .before .before .before .before .before .before .before .before .before .if1 .left)) (c .before .before .before .before .before .before .before .before .revert .ensures) (c .enum-told .given .1)
 
 -- src/lib.rt:100:18
+cast-es : tie.Need-cast-es
+cast-es c = search needs
+
 cast-ws : tie.Need-cast-ws
 cast-ws c = search needs
 
@@ -96,7 +99,7 @@ same-length-9 c = search needs
 
 -- src/lib.rt:102:13
 returns-3 : tie.Need-returns-3
-returns-3 c = invalid-cut _ _ _ _ _ _ _ _ _ _ (c .before .before .before .before .before .before .before .before .before .before .before .before .before .before .before .before .before .before .before .before .before .is-swapped .ensures) (not-false _ (c .before .before .before .before .before .before .before .before .before .before .before .before .before .before .before .before .before .before .before .before .if1 .left)) (c .before .before .before .before .before .before .before .before .before .before .before .before .before .before .before .before .revert .ensures) _ (c .before .before .before .before .before .before .before .before .second .given .1) _ _ (c .before .before .before .before .invalidate .ensures) (c .enum-told2 .given .1)
+returns-3 c = invalid-cut _ _ _ _ _ _ _ _ _ _ (c .before .before .before .before .before .before .before .before .before .before .before .before .before .before .before .before .before .before .before .before .before .before .is-swapped .ensures) (not-false _ (c .before .before .before .before .before .before .before .before .before .before .before .before .before .before .before .before .before .before .before .before .before .if1 .left)) (c .before .before .before .before .before .before .before .before .before .before .before .before .before .before .before .before .before .revert .ensures) _ (c .before .before .before .before .before .before .before .before .before .second .given .1) _ _ (c .before .before .before .before .invalidate .ensures) (c .enum-told2 .given .1)
 
 -- src/lib.rt:104:9
 renew-requires : tie.Need-renew-requires
@@ -116,7 +119,7 @@ same-length-12 c = search needs
 
 -- src/lib.rt:80:5
 returns-4 : tie.Need-returns-4
-returns-4 c = boot-revert _ _ _ _ _ _ _ _ _ _ (c .before .before .before .before .before .before .before .before .before .before .before .before .before .before .before .before .before .before .before .before .before .before .before .before .before .before .is-swapped .ensures) (not-false _ (c .before .before .before .before .before .before .before .before .before .before .before .before .before .before .before .before .before .before .before .before .before .before .before .before .before .if1 .left)) (c .before .before .before .before .before .before .before .before .before .before .before .before .before .before .before .before .before .before .before .before .before .revert .ensures) _ (c .before .before .before .before .before .before .before .before .before .before .before .before .before .second .given .1) _ _ (c .before .before .before .before .before .before .before .before .before .invalidate .ensures) _ _ _ (c .before .before .before .before .before .third .given .1) (c .before .before .before .before .before .before .before .before .before .invalidate .kept .0 ∙ c .before .before .before .before .before .before .before .before .before .before .before .before .before .before .before .before .before .before .before .before .before .revert .kept .1 .1 .1 .0) (c .before .before .renew .ensures)
+returns-4 c = boot-revert _ _ _ _ _ _ _ _ _ _ (c .before .before .before .before .before .before .before .before .before .before .before .before .before .before .before .before .before .before .before .before .before .before .before .before .before .before .before .is-swapped .ensures) (not-false _ (c .before .before .before .before .before .before .before .before .before .before .before .before .before .before .before .before .before .before .before .before .before .before .before .before .before .before .if1 .left)) (c .before .before .before .before .before .before .before .before .before .before .before .before .before .before .before .before .before .before .before .before .before .before .revert .ensures) _ (c .before .before .before .before .before .before .before .before .before .before .before .before .before .before .second .given .1) _ _ (c .before .before .before .before .before .before .before .before .before .invalidate .ensures) _ _ _ (c .before .before .before .before .before .third .given .1) (c .before .before .before .before .before .before .before .before .before .invalidate .kept .0 ∙ c .before .before .before .before .before .before .before .before .before .before .before .before .before .before .before .before .before .before .before .before .before .before .revert .kept .1 .1 .1 .0) (c .before .before .renew .ensures)
 
 pub swap-or-revert-spec : {M : Type 1} → statement M
 swap-or-revert-spec =
@@ -135,6 +138,7 @@ swap-or-revert-spec =
     same-length-5
     same-length-6
     returns-2
+    cast-es
     cast-ws
     invalidate-requires
     enum-known-third

@@ -18,7 +18,7 @@ enum-known-judged c = search needs
 
 -- src/lib.rt:280:13
 returns : tie.Need-returns
-returns c = λ k es a d e s x. did-refused k _ _ _ _ e (c .before .judged .given .1)
+returns c = λ k a d e s x. did-refused k _ _ _ _ e (c .before .judged .given .1)
 
 enum-told : tie.Need-enum-told
 enum-told c = search needs
@@ -45,11 +45,11 @@ same-length c = search needs
 
 -- src/lib.rt:283:13
 returns-2 : tie.Need-returns-2
-returns-2 c = λ k es a d e s x. let g = c .before .before .before .before .before .before .before .before .before .before .args in mark-cut k _ _ _ a d _ _ _ e (c .before .before .before .before .before .before .before .enum-told .given .1) s (x ∙ ap (λ m. setMagicOps es (g .self .ws) m (g .state .now)) (sym (c .before .before .before .before .before .magic .ensures))) (c .before .before .before .before .set-magic .ensures es) (c .enum-told2 .given .1)
+returns-2 c = λ k a d e s x. let g = c .before .before .before .before .before .before .before .before .before .before .args in mark-cut k _ _ _ a d _ _ _ e (c .before .before .before .before .before .before .before .enum-told .given .1) s (x ∙ ap (λ m. setMagicOps (g .self .es) (g .self .ws) m (g .state .now)) (sym (c .before .before .before .before .before .magic .ensures))) (c .before .before .before .before .set-magic .ensures) (c .enum-told2 .given .1)
 
 -- src/lib.rt:285:22
 sub-t13 : tie.Need-sub-t13
-sub-t13 c = on-low _ _ _ _ _ (ran _ _ _ _ _ (c .before .before .before .before .before .before .set-magic .ensures 0 [] [])) _ (c .before .before .rest .given .1)
+sub-t13 c = on-low _ _ _ _ _ (ran _ _ _ _ _ (c .before .before .before .before .before .before .set-magic .ensures [] [])) _ (c .before .before .rest .given .1)
 
 -- src/lib.rt:275:5
 same-length-2 : tie.Need-same-length-2
@@ -57,7 +57,7 @@ same-length-2 c = search needs
 
 -- src/lib.rt:275:5
 returns-3 : tie.Need-returns-3
-returns-3 c = λ k es a d e s x. let g = c .before .before .before .before .before .before .before .before .before .before .before .before .args in mark-done k _ _ _ a d _ _ _ e (c .before .before .before .before .before .before .before .before .before .enum-told .given .1) s (x ∙ ap (λ m. setMagicOps es (g .self .ws) m (g .state .now)) (sym (c .before .before .before .before .before .before .before .magic .ensures))) (c .before .before .before .before .before .before .set-magic .ensures es) _ (c .before .before .rest .given .1)
+returns-3 c = λ k a d e s x. let g = c .before .before .before .before .before .before .before .before .before .before .before .before .args in mark-done k _ _ _ a d _ _ _ e (c .before .before .before .before .before .before .before .before .before .enum-told .given .1) s (x ∙ ap (λ m. setMagicOps (g .self .es) (g .self .ws) m (g .state .now)) (sym (c .before .before .before .before .before .before .before .magic .ensures))) (c .before .before .before .before .before .before .set-magic .ensures) _ (c .before .before .rest .given .1)
 
 pub mark-spec : {M : Type 1} → statement M
 mark-spec =

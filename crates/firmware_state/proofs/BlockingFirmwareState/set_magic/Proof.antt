@@ -11,6 +11,9 @@ use Rattle.state_area.proofs.magic_is.Reads as magic-is-reads
 use Rattle.state_area.proofs.renew.Reads as renew-reads
 
 -- src/lib.rt:292:18
+cast-es : tie.Need-cast-es
+cast-es c = search needs
+
 cast-ws : tie.Need-cast-ws
 cast-ws c = search needs
 
@@ -24,7 +27,7 @@ same-length c = search needs
 
 -- src/lib.rt:294:13
 returns : tie.Need-returns
-returns c = λ es. magic-there es _ _ 0 _ _ (sym (c .before .magic-is .ensures) ∙ c .if1 .taken)
+returns c = magic-there _ _ _ 0 _ _ (sym (c .before .magic-is .ensures) ∙ c .if1 .taken)
 
 -- src/lib.rt:296:12
 is-valid-requires : tie.Need-is-valid-requires
@@ -48,7 +51,7 @@ same-length-2 c = search needs
 
 -- src/lib.rt:298:17
 returns-2 : tie.Need-returns-2
-returns-2 c = λ es. magic-cut es _ _ _ _ (sym (c .before .before .before .before .before .before .before .before .before .before .magic-is .ensures) ∙ c .before .before .before .before .before .before .before .before .before .if1 .left) (sym (c .before .before .before .before .before .before .before .is-valid .ensures) ∙ c .before .before .before .before .before .before .if2 .taken) _ _ (c .before .before .before .before .invalidate .ensures) (c .enum-told .given .1)
+returns-2 c = magic-cut _ _ _ _ _ (sym (c .before .before .before .before .before .before .before .before .before .before .magic-is .ensures) ∙ c .before .before .before .before .before .before .before .before .before .if1 .left) (sym (c .before .before .before .before .before .before .before .is-valid .ensures) ∙ c .before .before .before .before .before .before .if2 .taken) _ _ (c .before .before .before .before .invalidate .ensures) (c .enum-told .given .1)
 
 -- src/lib.rt:300:13
 renew-requires : tie.Need-renew-requires
@@ -60,7 +63,7 @@ same-length-3 c = search needs
 
 -- src/lib.rt:300:13
 returns-3 : tie.Need-returns-3
-returns-3 c = λ es. magic-on es _ _ _ _ (sym (c .before .before .before .before .before .before .before .before .before .before .before .before .before .before .before .magic-is .ensures) ∙ c .before .before .before .before .before .before .before .before .before .before .before .before .before .before .if1 .left) (sym (c .before .before .before .before .before .before .before .before .before .before .before .before .is-valid .ensures) ∙ c .before .before .before .before .before .before .before .before .before .before .before .if2 .taken) _ _ (c .before .before .before .before .before .before .before .before .before .invalidate .ensures) _ _ _ (c .before .before .before .before .before .rest .given .1) (c .before .before .before .before .before .before .before .before .before .invalidate .kept .0) (c .before .before .renew .ensures)
+returns-3 c = magic-on _ _ _ _ _ (sym (c .before .before .before .before .before .before .before .before .before .before .before .before .before .before .before .magic-is .ensures) ∙ c .before .before .before .before .before .before .before .before .before .before .before .before .before .before .if1 .left) (sym (c .before .before .before .before .before .before .before .before .before .before .before .before .is-valid .ensures) ∙ c .before .before .before .before .before .before .before .before .before .before .before .if2 .taken) _ _ (c .before .before .before .before .before .before .before .before .before .invalidate .ensures) _ _ _ (c .before .before .before .before .before .rest .given .1) (c .before .before .before .before .before .before .before .before .before .invalidate .kept .0) (c .before .before .renew .ensures)
 
 -- src/lib.rt:302:9
 renew-requires-2 : tie.Need-renew-requires-2
@@ -72,12 +75,13 @@ same-length-4 c = search needs
 
 -- src/lib.rt:289:5
 returns-4 : tie.Need-returns-4
-returns-4 c = λ es. magic-renew es _ _ _ _ (sym (c .before .before .before .before .before .before .before .before .magic-is .ensures) ∙ c .before .before .before .before .before .before .before .if1 .left) _ _ (sym (c .before .before .before .before .before .is-valid .ensures) ∙ c .before .before .before .before .if2 .left) (c .before .before .renew2 .ensures)
+returns-4 c = magic-renew _ _ _ _ _ (sym (c .before .before .before .before .before .before .before .before .magic-is .ensures) ∙ c .before .before .before .before .before .before .before .if1 .left) _ _ (sym (c .before .before .before .before .before .is-valid .ensures) ∙ c .before .before .before .before .if2 .left) (c .before .before .renew2 .ensures)
 
 pub set-magic-spec : {M : Type 1} → statement M
 set-magic-spec =
     tie.close
     (tie.spec
+    cast-es
     cast-ws
     magic-is-requires
     same-length

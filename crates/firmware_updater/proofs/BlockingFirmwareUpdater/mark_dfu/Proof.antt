@@ -1,4 +1,4 @@
-use mathlib.Core.Path.{refl, ap, sym}
+use mathlib.Core.Path.{refl, ap₂, sym}
 use mathlib.Core.List.{[]}
 use Rattle.state.specs.declared.State.the-variants.{DfuDetach}
 use Rattle.state.specs.Magic.{magic}
@@ -33,7 +33,7 @@ same-length c = search needs
 -- src/lib.rt:94:5
 returns : tie.Need-returns
 unfolding updaterMarkDfu updaterMark updaterCall
-returns c = let a = c .before .before .before .before .before .before .before .before .before .args in c .before .before .mark .ensures (updaterMarkDfu (a .self .sizes) (flash [] (a .dfu .now) (a .state .now))) (a .self .sizes .es) [] (a .dfu .now) (c .before .before .before .before .before .booted-verdict .ensures) refl (ap (λ w. setMagicOps (a .self .sizes .es) w (magic DfuDetach) (a .state .now)) (sym (c .before .before .before .before .state .ensures .1)))
+returns c = let a = c .before .before .before .before .before .before .before .before .before .args in c .before .before .mark .ensures (updaterMarkDfu (a .self .sizes) (flash [] (a .dfu .now) (a .state .now))) [] (a .dfu .now) (c .before .before .before .before .before .booted-verdict .ensures) refl (ap₂ (λ e w. setMagicOps e w (magic DfuDetach) (a .state .now)) (sym (c .before .before .before .before .state .ensures .0)) (sym (c .before .before .before .before .state .ensures .1)))
 
 pub mark-dfu-spec : {M : Type 1} → statement M
 mark-dfu-spec =

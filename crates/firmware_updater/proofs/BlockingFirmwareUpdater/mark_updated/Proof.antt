@@ -1,4 +1,4 @@
-use mathlib.Core.Path.{refl, ap, sym}
+use mathlib.Core.Path.{refl, ap₂, sym}
 use mathlib.Core.List.{[]}
 use Rattle.state.specs.declared.State.the-variants.{Swap}
 use Rattle.state.specs.Magic.{magic}
@@ -35,7 +35,7 @@ same-length c = search needs
 -- src/lib.rt:85:5
 returns : tie.Need-returns
 unfolding updaterMarkUpdated updaterMark updaterCall
-returns c = let a = c .before .before .before .before .before .before .before .before .args in c .before .before .mark .ensures (updaterMarkUpdated (a .self .sizes) (flash [] (a .dfu .now) (a .state .now))) (a .self .sizes .es) [] (a .dfu .now) (c .before .before .before .before .before .updater-verdict .ensures) refl (ap (λ w. setMagicOps (a .self .sizes .es) w (magic Swap) (a .state .now)) (sym (c .before .before .before .before .state .ensures .1)))
+returns c = let a = c .before .before .before .before .before .before .before .before .args in c .before .before .mark .ensures (updaterMarkUpdated (a .self .sizes) (flash [] (a .dfu .now) (a .state .now))) [] (a .dfu .now) (c .before .before .before .before .before .updater-verdict .ensures) refl (ap₂ (λ e w. setMagicOps e w (magic Swap) (a .state .now)) (sym (c .before .before .before .before .state .ensures .0)) (sym (c .before .before .before .before .state .ensures .1)))
 
 pub mark-updated-spec : {M : Type 1} → statement M
 mark-updated-spec =

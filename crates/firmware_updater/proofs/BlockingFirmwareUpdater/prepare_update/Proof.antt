@@ -30,6 +30,10 @@ enum-told : tie.Need-enum-told
 enum-told c = search needs
 
 -- src/lib.rt:160:30
+cast-unit : tie.Need-cast-unit
+cast-unit c = search needs
+
+-- src/lib.rt:161:30
 erase-requires : tie.Need-erase-requires
 erase-requires c κs = search needs
 
@@ -47,11 +51,11 @@ same-length c = search needs
 
 -- src/lib.rt:161:13
 returns-2 : tie.Need-returns-2
-returns-2 c = let a = c .before .before .before .before .before .before .before .before .before .before .before .args in update-cut _ _ (a .dfu .now) (a .state .now) _ (c .before .before .before .before .before .before .before .before .booted-verdict .ensures) (c .before .before .before .before .before .before .enum-told .given .1) _ _ (c .before .before .before .before .erase .ensures) (c .enum-told2 .given .1)
+returns-2 c = let a = c .before .before .before .before .before .before .before .before .before .before .before .before .args in update-cut _ _ (a .dfu .now) (a .state .now) _ (c .before .before .before .before .before .before .before .before .before .booted-verdict .ensures) (c .before .before .before .before .before .before .before .enum-told .given .1) _ _ (c .before .before .before .before .erase .ensures) (c .enum-told2 .given .1)
 
 -- src/lib.rt:168:34
-sub-t18 : tie.Need-sub-t18
-sub-t18 c = on-low _ _ _ _ _ (ran _ _ _ _ _ (c .before .before .before .before .before .before .erase .ensures 0 dfu (flash [] [] []))) _ (c .before .before .rest .given .1)
+sub-t19 : tie.Need-sub-t19
+sub-t19 c = on-low _ _ _ _ _ (ran _ _ _ _ _ (c .before .before .before .before .before .before .erase .ensures dfu (flash [] [] []))) _ (c .before .before .rest .given .1)
 
 -- src/lib.rt:149:5
 same-length-2 : tie.Need-same-length-2
@@ -59,7 +63,7 @@ same-length-2 c = search needs
 
 -- src/lib.rt:149:5
 returns-3 : tie.Need-returns-3
-returns-3 c = let a = c .before .before .before .before .before .before .before .before .before .before .before .before .before .args in update-done _ _ (a .dfu .now) (a .state .now) _ (c .before .before .before .before .before .before .before .before .before .before .booted-verdict .ensures) (c .before .before .before .before .before .before .before .before .enum-told .given .1) _ _ (c .before .before .before .before .before .before .erase .ensures) _ (c .before .before .rest .given .1)
+returns-3 c = let a = c .before .before .before .before .before .before .before .before .before .before .before .before .before .before .args in update-done _ _ (a .dfu .now) (a .state .now) _ (c .before .before .before .before .before .before .before .before .before .before .before .booted-verdict .ensures) (c .before .before .before .before .before .before .before .before .before .enum-told .given .1) _ _ (c .before .before .before .before .before .before .erase .ensures) _ (c .before .before .rest .given .1)
 
 pub prepare-update-spec : {M : Type 1} → statement M
 prepare-update-spec =
@@ -69,11 +73,12 @@ prepare-update-spec =
     enum-known-judged
     returns
     enum-told
+    cast-unit
     erase-requires
     enum-known-rest
     enum-told-2
     same-length
     returns-2
-    sub-t18
+    sub-t19
     same-length-2
     returns-3)
