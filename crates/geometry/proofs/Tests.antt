@@ -11,7 +11,7 @@ use borrow.Author.Tests.{ltb-false, eqb-false, eqb-true, not-false}
 use Rattle.state.specs.Choice.{pick}
 use Rattle.geometry.specs.declared.Geometry.{Geometry}
 use Rattle.geometry.specs.Geometry.{page, pages, words}
-use Rattle.geometry.specs.Refusals.{any, rowFrom, mostNumber, mostLength, badNumber, tooLong, uneven, bootWords}
+use Rattle.geometry.specs.Refusals.{any, rowFrom, mostNumber, mostLength, badNumber, tooLong, uneven}
 use Rattle.geometry.specs.Admitted.{Number, Numbers}
 
 pub any-first : (b : Bool) (bs : List Bool) → b ≡ true → any (b ∷ bs) ≡ true
@@ -78,11 +78,3 @@ page-some g s = omega (arith, s .ea .some, s .ed .some)
 pub page-most : (g : Geometry) → Numbers g → page g ≤ mostNumber
 unfolding page
 page-most g s = omega (arith, s .ea .most, s .ed .most)
-
-pub boot-words-none : (n : ℕ) → n ≡ 0 → 3 ≡ bootWords n
-unfolding bootWords
-boot-words-none n e = rw e
-
-pub boot-words-some : (n : ℕ) → (n ≡ 0 → ⊥) → 4 * n + 2 ≡ bootWords n
-unfolding bootWords
-boot-words-some n e = omega (arith, e)

@@ -1,7 +1,7 @@
 -- Document 01, "When a call says no": the table, row by row. Numbers are whole numbers, so no sum wraps. Assumes nothing.
 use mathlib.Core.Bool.{Bool, true, false, not}
 use mathlib.Core.List.{List, [], _∷_, map, _++_}
-use Prim.Native.Nat.{ℕ, suc, _+_, _*_, _%_, max}
+use Prim.Native.Nat.{ℕ, suc, _+_, _*_, _%_}
 use lib.Dec.{ltb, eqb}
 use Rattle.state.specs.Choice.{pick}
 use Rattle.geometry.specs.declared.Geometry.{Geometry}
@@ -69,9 +69,9 @@ unevenAreas g la ld = any (uneven la (page g) ∷ uneven ld (page g) ∷ ltb ld 
 unfoldable pub badState : ℕ → ℕ → ℕ → ℕ → Bool
 badState least es ws ls = any (uneven es ws ∷ uneven ls es ∷ ltb (words ws ls) least ∷ [])
 
--- row 4, boot: T < 4N + 2 or T < 3
+-- row 4, boot: T < 4N + 3, so that every mark of swap and revert is read
 unfoldable pub bootWords : ℕ → ℕ
-bootWords n = max (4 * n + 2) 3
+bootWords n = 4 * n + 3
 
 -- row 4, every other call: T < 2
 unfoldable pub otherWords : ℕ

@@ -112,7 +112,7 @@ pub fn boot_words(n: usize) -> usize
     requires { ⌜ n ≤ mostLength ⌝ }
     ensures { λ r. ⌜ r ≡ bootWords n ⌝ }
 {
-    if n == 0 { 3 } else { 4 * n + 2 }
+    4 * n + 3
 }
 
 // Row 4 of prepare_boot.

@@ -24,7 +24,6 @@ ready =
     record {
       marked = record { admitted = refl; active-bytes = search (lit<); dfu-bytes = search (lit<); fresh = refl };
       some-page = lit≤ tt;
-      room = lit≤ tt;
     }
 
 marked-none : Marked (sizes 3) noPages
@@ -57,7 +56,6 @@ ready-fine =
     record {
       marked = record { admitted = refl; active-bytes = search (lit<); dfu-bytes = search (lit<); fresh = refl };
       some-page = lit≤ tt;
-      room = lit≤ tt;
     }
 
 cases-fine : map computed finely ≡ map told finely

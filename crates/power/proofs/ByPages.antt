@@ -50,7 +50,7 @@ module _ (p k : ℕ) (bytes xs : List ℕ) (l : length bytes ≡ p) (fit : k * p
 
 module _ (g : Geometry) (f : Flash) (r : Ready g f) where
   s : Sized g f (words (g .ws) (length (f .state)) - 2)
-  s = sized g f (r .marked .admitted) (r .room)
+  s = sized g f (r .marked .admitted)
 
   pub swapped-pages : SwappedPages g f (swapTable g f)
   unfolding swapTable newDfu

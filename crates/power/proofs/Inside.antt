@@ -129,7 +129,7 @@ module _ (g : Geometry) (f : Flash) (ad : Admitted g (length (f .active)) (lengt
       div-mul-cancel (g .ws)
       (dvd-trans (g .ws) (dvd-of-mod-eq-zero (g .ws) (ad .unit-words)) (dvd-of-mod-eq-zero (g .es) (ad .state-units)))
 
-  -- word i is there for every i below 4N + 2 or below 3
+  -- word i is there for every i below 4N + 3
   word-there : (i : ℕ) → i < bootWords N → i * g .ws + g .ws ≤ length (f .state)
   unfolding pageCount
   word-there i h =

@@ -15,7 +15,6 @@ use Rattle.state.specs.Magic.{erased}
 use Rattle.geometry.specs.declared.Geometry.{Geometry}
 use Rattle.geometry.specs.Geometry.{page, pages, words}
 use Rattle.geometry.proofs.Rows.{admitted}
-use Rattle.geometry.proofs.Tests.{boot-words-none}
 use Rattle.mem_flash.specs.Flash.{dfu, Flash, Op, blank, after}
 use Rattle.rules.specs.StateArea.{readState, progress}
 use Rattle.rules.specs.Steps.{swapFrom, revertFrom, pageCount}
@@ -89,7 +88,7 @@ module _ (g : Geometry) (ks : List ℕ) (k : ℕ) (f : Flash) (a : Admits g (run
             ran-after g k (runs g ks f) a ∙ ap (λ (os : List Op). after k os (runs g ks f)) n ∙ after-none k (runs g ks f) ∙ e;
       }
 
-module _ (g : Geometry) (f : Flash) (m : Marked g f) (room : 4 * pageCount g f + 3 ≤ words (g .ws) (length (f .state))) where
+module _ (g : Geometry) (f : Flash) (m : Marked g f) where
   abbrev t : ℕ
   t = words (g .ws) (length (f .state)) - 2
 
@@ -112,7 +111,7 @@ module _ (g : Geometry) (f : Flash) (m : Marked g f) (room : 4 * pageCount g f +
   D′ = newDfu (page g) A D
 
   s : Sized g f t
-  s = sized g f (m .admitted) room
+  s = sized g f (m .admitted)
 
   im : Images (page g) N A D A′ D′
   im = images (s .paged) (m .active-bytes) (m .dfu-bytes)
@@ -401,7 +400,7 @@ revertedDfu g f = withPage (page g) (pageCount g f) (pageAt (page g) (pageCount 
 
 module _ (g : Geometry) (f : Flash) (r : Ready g f) where
   sizes : Sized g f (words (g .ws) (length (f .state)) - 2)
-  sizes = sized g f (r .marked .admitted) (r .room)
+  sizes = sized g f (r .marked .admitted)
 
   end : mix (page g) (pageCount g f) (f .dfu) (newDfu (page g) (f .active) (f .dfu)) ≡ revertedDfu g f
   end = mix-reverted (sizes .paged) (r .some-page)
@@ -409,7 +408,7 @@ module _ (g : Geometry) (f : Flash) (r : Ready g f) where
   pub turns : (ks : List ℕ) (k : ℕ) → FirstWhole g ks k (swapTable g f)
       → Turns g ks k (swapTable g f) (f .active) (revertedDfu g f) (length (f .state))
       (revertMarks (g .ws) (pageCount g f) (length (f .state)))
-  turns = turns-back g f (r .marked) (r .room) (revertedDfu g f) end
+  turns = turns-back g f (r .marked) (revertedDfu g f) end
 
   -- the marks fill the state area
   marks-size : length (revertMarks (g .ws) (pageCount g f) (length (f .state))) ≡ length (f .state)
@@ -421,10 +420,10 @@ module _ (g : Geometry) (f : Flash) (r : Ready g f) where
   unfolding reverted revertedPart revertedErased revertImages stateUnits closed
   power =
       record {
-        swaps = swaps g f (r .marked) (r .room) (r .some-page);
+        swaps = swaps g f (r .marked) (r .some-page);
         reverts = λ ks k w o.
             turned g ks k (swapTable g f) (f .active) (revertedDfu g f) (length (f .state)) _
-            (same-state g f (r .marked) (r .room) (revertedDfu g f) end) (turns ks k w) o;
+            (same-state g f (r .marked) (revertedDfu g f) end) (turns ks k w) o;
         rests = λ ks k n w one most o.
             rested g ks k (swapTable g f) (f .active) (revertedDfu g f) (length (f .state)) _ (turns ks k w) n one most o;
         erased-whole =
@@ -432,36 +431,29 @@ module _ (g : Geometry) (f : Flash) (r : Ready g f) where
             (ap (λ (n : ℕ). blank n (revertMarks (g .ws) (pageCount g f) (length (f .state)))) (sizes .units)
             ∙ blank-all (length (f .state)) (revertMarks (g .ws) (pageCount g f) (length (f .state))) marks-size);
         swap-soon = λ ks many cuts.
-            let l = swap-left g f (r .marked) (r .room) (r .some-page) ks cuts in
+            let l = swap-left g f (r .marked) (r .some-page) ks cuts in
             omega (arith, l .gain many, l .inv .1, swap-count (pageCount g f) 0);
         revert-soon = λ ks many cuts.
-            let l = back-left g f (r .marked) (r .room) (revertedDfu g f) end ks cuts in
+            let l = back-left g f (r .marked) (revertedDfu g f) end ks cuts in
             omega (arith, l .gain many, revert-count (pageCount g f) 0 (2 * pageCount g f));
         revert-sooner = λ ks enough many cuts.
-            let l = nearer-left g f (r .marked) (r .room) (revertedDfu g f) end
+            let l = nearer-left g f (r .marked) (revertedDfu g f) end
             (subst (λ (n : ℕ). 2 + n / g .es ≤ dearerCost g) (sizes .state) enough) ks cuts in
             omega (arith, l .gain many, revert-count (pageCount g f) 0 (2 * pageCount g f));
-        swap-gains = λ ks k cuts c h. swap-gains g f (r .marked) (r .room) (r .some-page) ks k cuts c h;
-        swap-stays = λ ks k cuts c h. swap-stays g f (r .marked) (r .room) (r .some-page) ks k cuts c h;
+        swap-gains = λ ks k cuts c h. swap-gains g f (r .marked) (r .some-page) ks k cuts c h;
+        swap-stays = λ ks k cuts c h. swap-stays g f (r .marked) (r .some-page) ks k cuts c h;
         revert-gains = λ ks k cuts c few h swap.
-            back-gains g f (r .marked) (r .room) (revertedDfu g f) end ks k cuts c few h swap;
-        revert-stays = λ ks k cuts c few h. back-stays g f (r .marked) (r .room) (revertedDfu g f) end ks k cuts c few h;
-        swap-never = swap-never g f (r .marked) (r .room) (r .some-page);
-        revert-never = back-never g f (r .marked) (r .room) (revertedDfu g f) end (r .some-page);
+            back-gains g f (r .marked) (revertedDfu g f) end ks k cuts c few h swap;
+        revert-stays = λ ks k cuts c few h. back-stays g f (r .marked) (revertedDfu g f) end ks k cuts c few h;
+        swap-never = swap-never g f (r .marked) (r .some-page);
+        revert-never = back-never g f (r .marked) (revertedDfu g f) end (r .some-page);
       }
 
 -- ---- no pages
 
 module _ (g : Geometry) (f : Flash) (m : Marked g f) (none : pageCount g f ≡ 0) where
-  -- three words are enough, and every admitted state area has them
-  room : 4 * pageCount g f + 3 ≤ words (g .ws) (length (f .state))
-  unfolding pageCount
-  room =
-      let a = admitted g (length (f .active)) (length (f .dfu)) (length (f .state)) (m .admitted) in
-      omega (arith, a .state-words, boot-words-none (pages g (length (f .active))) none)
-
   fits : Sized g f (words (g .ws) (length (f .state)) - 2)
-  fits = sized g f (m .admitted) room
+  fits = sized g f (m .admitted)
 
   -- active is empty
   empty : length (f .active) ≡ 0
@@ -486,7 +478,7 @@ module _ (g : Geometry) (f : Flash) (m : Marked g f) (none : pageCount g f ≡ 0
   -- the way of the swap has no step, so its end is its start
   already : swapTable g f ≡ f
   unfolding swapFrom
-  already = sym (no-step (pageCount g f) (pageCount g f) (S g f m room) none (way-there g f m room))
+  already = sym (no-step (pageCount g f) (pageCount g f) (S g f m) none (way-there g f m))
     where
       no-step : (n N S : ℕ) → n ≡ 0 → Way g N S 0 f (swapFrom n 0) (swapTable g f) → f ≡ swapTable g f
       no-step zero N S e w = w .1
@@ -496,7 +488,7 @@ module _ (g : Geometry) (f : Flash) (m : Marked g f) (none : pageCount g f ≡ 0
   unfolding stateUnits
   count =
       ap length
-      (boot-reverts g (pageCount g f) (S g f m room) 0 f (reads g f m room) (omega (arith, none))
+      (boot-reverts g (pageCount g f) (S g f m) 0 f (reads g f m) (omega (arith, none))
       ∙ ap (λ (os : List Op). os ++ finishOps g f) (copies-none g f (pageCount g f) 0 (2 * pageCount g f) (omega (arith, none))))
       ∙ finish-count g f
 
@@ -505,7 +497,7 @@ module _ (g : Geometry) (f : Flash) (m : Marked g f) (none : pageCount g f ≡ 0
   turns-none ks k =
       subst₂ (λ (x : Flash) (n : ℕ). FirstWhole g ks k x
       → Turns g ks k x (f .active) (f .dfu) (length (f .state)) (revertMarks (g .ws) n (length (f .state)))) already none
-      (turns-back g f m room (f .dfu) stays ks k)
+      (turns-back g f m (f .dfu) stays ks k)
 
   pub no-pages : NoPages g f
   unfolding closed stateUnits
@@ -514,7 +506,7 @@ module _ (g : Geometry) (f : Flash) (m : Marked g f) (none : pageCount g f ≡ 0
         swapped = already;
         at-once = λ k h.
             answer-done g k f (m .admitted) (rw count h)
-            ∙ ap₂ (λ (x : State) (c : ℕ). record { number = 0; state = some x; count = c }) (reads g f m room .swap) count;
+            ∙ ap₂ (λ (x : State) (c : ℕ). record { number = 0; state = some x; count = c }) (reads g f m .swap) count;
         reverts = λ ks k w o. turned g ks k f (f .active) (f .dfu) (length (f .state)) _ refl (turns-none ks k w) o;
         rests = λ ks k r w one most o.
             rested g ks k f (f .active) (f .dfu) (length (f .state)) _ (turns-none ks k w) r one most o;

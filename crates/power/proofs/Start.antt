@@ -11,14 +11,14 @@ use Rattle.state.specs.declared.State.the-variants.{Swap}
 use Rattle.state.specs.Magic.{erased, marked, magic}
 use Rattle.geometry.specs.declared.Geometry.{Geometry}
 use Rattle.geometry.specs.Geometry.{page, pages, words}
-use Rattle.geometry.specs.Refusals.{bootRefusal}
+use Rattle.geometry.specs.Refusals.{bootWords, bootRefusal}
 use Rattle.geometry.proofs.Rows.{admitted}
 use Rattle.geometry.proofs.Tests.{even-times, page-some}
 use Rattle.mem_flash.specs.Flash.{Area, Flash}
 use Rattle.rules.specs.StateArea.{progress}
 use Rattle.rules.specs.Steps.{unitOf, pageCount}
 use Rattle.rules.specs.Power.{magicArea, swapMarks, revertMarks, pageAt, withPage, stepCost, stepTo, nextCost}
-use Rattle.power.specs.Power.{Bytes}
+use Rattle.power.specs.Power.{Bytes, EnoughWords}
 use Rattle.power.proofs.Bytes.{bytes-take, bytes-drop, bytes-append}
 use Rattle.power.proofs.Pages.{mix, pages-le, page-take, page-append-left, page-append-right}
 use Rattle.power.proofs.Words.{spread, marks, length-spread, length-marks, spread-append, spread-replicate}
@@ -176,10 +176,16 @@ pub record Sized (g : Geometry) (f : Flash) (t : ℕ) : Type 0 where
   pub unit : g .ws ≤ g .es
   pub room : 4 * pageCount g f < t
 
+-- every admitted state area has a word for each mark, and one more
+pub enough-words : (g : Geometry) (f : Flash) → EnoughWords g f
+unfolding pageCount bootWords
+enough-words g f r = admitted g (length (f .active)) (length (f .dfu)) (length (f .state)) r .state-words
+
 pub sized : (g : Geometry) (f : Flash) → bootRefusal g (length (f .active)) (length (f .dfu)) (length (f .state)) ≡ 0
-    → 4 * pageCount g f + 3 ≤ words (g .ws) (length (f .state)) → Sized g f (words (g .ws) (length (f .state)) - 2)
+    → Sized g f (words (g .ws) (length (f .state)) - 2)
 unfolding pageCount pages words stepCost nextCost
-sized g f r room =
+sized g f r =
+    let room = enough-words g f r in
     let a = admitted g (length (f .active)) (length (f .dfu)) (length (f .state)) r in
     let p : 0 < page g = page-some g (a .numbers) in
     let whole : Whole g = whole-page a in

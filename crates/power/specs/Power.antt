@@ -31,11 +31,16 @@ pub record Marked (g : Geometry) (f : Flash) : Type 0 where
   pub dfu-bytes : Bytes (f .dfu)
   pub fresh : Fresh g f
 
--- and there are N pages, N at least 1, and 4N + 3 or more state words
+-- and there are N pages, N at least 1
 pub record Ready (g : Geometry) (f : Flash) : Type 0 where
   pub marked : Marked g f
   pub some-page : 1 ≤ pageCount g f
-  pub room : 4 * pageCount g f + 3 ≤ words (g .ws) (length (f .state))
+
+-- demand 3 asks for 4N + 3 or more state words: every admitted geometry has them
+abbrev pub EnoughWords : Geometry → Flash → Type 0
+EnoughWords g f =
+    bootRefusal g (length (f .active)) (length (f .dfu)) (length (f .state)) ≡ 0
+    → 4 * pageCount g f + 3 ≤ words (g .ws) (length (f .state))
 
 -- ---- runs
 

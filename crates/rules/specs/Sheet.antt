@@ -52,6 +52,9 @@ done s n = record { number = 0; state = some s; count = n }
 unfoldable pub cut : ℕ → Report
 cut n = record { number = 7; state = none; count = n }
 
+unfoldable pub refused : ℕ → Report
+refused n = record { number = n; state = none; count = 0 }
+
 -- pages of four bytes, each filled with one byte
 unfoldable pub pages : List ℕ → List ℕ
 pages [] = []
@@ -102,13 +105,23 @@ table =
     ∷ case (boot 24 ∷ boot 26 ∷ boot 0 ∷ []) (done Boot 0) (1 ∷ 2 ∷ 3 ∷ []) (4 ∷ 5 ∷ 6 ∷ 3 ∷ []) (ff 16)
     -- j
     ∷ case (boot 24 ∷ markBooted 1 ∷ boot 3 ∷ []) (done Swap 3) (4 ∷ 5 ∷ 6 ∷ []) (4 ∷ 1 ∷ 2 ∷ 3 ∷ []) (0xC0 ∷ ff 15)
-    -- k
+    -- k: 4N + 2 words are refused since request No. 3, and no boot changes a byte; what mark_booted wrote is its own
     ∷ record {
       geometry = sizes 14;
       start = fresh 13;
       runs = boot 24 ∷ markBooted 1 ∷ boot 7 ∷ [];
-      answer = done Swap 7;
-      left = flash (pages (4 ∷ 5 ∷ 3 ∷ [])) (pages (4 ∷ 1 ∷ 2 ∷ 3 ∷ [])) (0xC0 ∷ ff 13);
+      answer = refused 4;
+      left = flash (pages (1 ∷ 2 ∷ 3 ∷ [])) (pages (4 ∷ 5 ∷ 6 ∷ 7 ∷ [])) (0xF0 ∷ 0x00 ∷ ff 12);
+    }
+    -- Ls = 14 by itself
+    ∷ record { geometry = sizes 14; start = fresh 13; runs = boot 24 ∷ []; answer = refused 4; left = fresh 13 }
+    -- k with a word more, the fewest that are admitted: as j
+    ∷ record {
+      geometry = sizes 15;
+      start = fresh 14;
+      runs = boot 24 ∷ markBooted 1 ∷ boot 7 ∷ [];
+      answer = done Swap 3;
+      left = flash (pages (4 ∷ 5 ∷ 6 ∷ [])) (pages (4 ∷ 1 ∷ 2 ∷ 3 ∷ [])) (0xC0 ∷ ff 14);
     }
     -- l
     ∷ record {

@@ -278,7 +278,7 @@ fn mark_booted(state: &mut Marks) -> Answer {
     BlockingFirmwareState::new(16, 1).mark_booted(state, 1)
 }
 
-// The same with 4N + 2 state words: the last mark is never read, and the image is mixed.
+// The same with 4N + 2 state words. The last mark would never be read and the image would be mixed, so both boots are refused.
 fn case_k() -> u32 {
     let mut active = active_start();
     let mut dfu = dfu_start();
@@ -306,17 +306,55 @@ fn told_k(answer: Answer, active: &Active, dfu: &Dfu, state: &[u8; 14]) -> u32 {
     told(
         b"k: 14 state bytes, boot 24, mark_booted 1, boot 7",
         answer,
-        show::found(1, 7),
+        show::refused(4),
         active,
         dfu,
         state,
-        b"\x04\x05\x03",
-        b"\x04\x01\x02\x03",
-        b"\xC0\xFF\xFF\xFF\xFF\xFF\xFF\xFF\xFF\xFF\xFF\xFF\xFF\xFF",
+        b"\x01\x02\x03",
+        b"\x04\x05\x06\x07",
+        b"\xF0\x00\xFF\xFF\xFF\xFF\xFF\xFF\xFF\xFF\xFF\xFF\xFF\xFF",
     )
 }
 
-// A word fewer than 4N + 2 is refused.
+// And with 4N + 3, the fewest that are admitted.
+fn case_k_more() -> u32 {
+    let mut active = active_start();
+    let mut dfu = dfu_start();
+    let mut state = [0xFFu8; 15];
+    state[0] = 0xF0;
+    let answer = run_k_more(&mut active, &mut dfu, &mut state);
+    told_k_more(answer, &active, &dfu, &state)
+}
+
+fn run_k_more(active: &mut Active, dfu: &mut Dfu, state: &mut [u8; 15]) -> Answer {
+    boot_k_more(active, dfu, state, 24);
+    confirm_k_more(state);
+    boot_k_more(active, dfu, state, 7)
+}
+
+fn boot_k_more(active: &mut Active, dfu: &mut Dfu, state: &mut [u8; 15], budget: u32) -> Answer {
+    loader(15).prepare_boot(active, dfu, state, budget)
+}
+
+fn confirm_k_more(state: &mut [u8; 15]) -> Answer {
+    BlockingFirmwareState::new(15, 1).mark_booted(state, 1)
+}
+
+fn told_k_more(answer: Answer, active: &Active, dfu: &Dfu, state: &[u8; 15]) -> u32 {
+    told(
+        b"k with 15 state bytes",
+        answer,
+        show::found(1, 3),
+        active,
+        dfu,
+        state,
+        b"\x04\x05\x06",
+        b"\x04\x01\x02\x03",
+        b"\xC0\xFF\xFF\xFF\xFF\xFF\xFF\xFF\xFF\xFF\xFF\xFF\xFF\xFF\xFF",
+    )
+}
+
+// A word fewer still.
 fn thirteen() -> u32 {
     let mut active = active_start();
     let mut dfu = dfu_start();
@@ -522,11 +560,11 @@ fn main() {
     let short = show::sum(
         case_j(),
         show::sum(
-            case_k(),
+            show::sum(case_k(), case_k_more()),
             show::sum(thirteen(), show::sum(case_l(), case_l_two())),
         ),
     );
     let wide = show::sum(wide_magic(), show::sum(wide_mark(), long_areas()));
     let boots = show::sum(swap, show::sum(revert, show::sum(short, wide)));
-    show::tally(show::sum(boots, updater::lines()), 24);
+    show::tally(show::sum(boots, updater::lines()), 25);
 }

@@ -18,22 +18,28 @@ pub fn exhaustive(judge: &mut Judge, random: &mut Random) {
     // no page: three to five words, all ten odd bytes or the four that matter
     each_shape_over(judge, random, byte_words, [1, 0, 1, 3], &[], &states::ODD);
     each_shape_over(judge, random, byte_words, [1, 0, 2, 5], &[], &[0x00, 0xFF, 0xF0, 0xC0]);
-    // one page: 4N + 2, 4N + 3 and more words
-    each_shape_over(judge, random, byte_words, [1, 1, 2, 6], &[], &[0x00, 0xFF, 0xF0, 0xA5]);
+    // one page: 4N + 3 words, the fewest, and more; a word less is refused
+    each_shape_over(judge, random, byte_words, [1, 1, 2, 6], &[0xF0], &[0x00, 0xFF]);
+    each_shape_over(judge, random, byte_words, [1, 1, 2, 7], &[], &[0x00, 0xFF, 0xF0]);
     each_shape_over(judge, random, byte_words, [1, 1, 2, 7], &[0xF0], &[0x00, 0xFF, 0xF0, 0x7F]);
     each_shape_over(judge, random, byte_words, [1, 1, 3, 8], &[0xF0], &[0x00, 0xFF, 0x01]);
     // two pages
-    each_shape_over(judge, random, byte_words, [1, 2, 3, 10], &[0xF0], &[0x00, 0xFF]);
     each_shape_over(judge, random, byte_words, [1, 2, 3, 11], &[0xF0, 0xFF], &[0x00, 0xFF, 0x5A]);
-    // three pages on the sheet's numbers, and the short state area
-    each_shape_over(judge, random, row([4, 2, 4, 2, 14, 1]), [2, 3, 4, 14], &[0xF0, 0xFF], &[0x00, 0xFF]);
+    // three pages on the sheet's numbers, and the shortest state area
+    each_shape_over(judge, random, row([4, 2, 4, 2, 15, 1]), [2, 3, 4, 15], &[0xF0, 0xFF], &[0x00, 0xFF]);
     // words of two and three bytes, so that a mark or a magic can be half there
     let two = row([2, 1, 2, 1, 2, 2]);
     each_shape_over(judge, random, two, [2, 0, 1, 3], &[], &[0x00, 0xFF, 0xF0, 0xC0]);
-    each_shape_over(judge, random, two, [2, 1, 2, 6], &[0xF0, 0xF0], &[0x00, 0xFF]);
     each_shape_over(judge, random, two, [2, 1, 2, 7], &[0xF0, 0xF0, 0xFF, 0xFF], &[0x00, 0xFF]);
     let three = row([3, 1, 3, 3, 6, 3]);
-    each_shape_over(judge, random, three, [3, 1, 3, 6], &[0xF0, 0xF0, 0xF0, 0xFF, 0xFF, 0xFF], &[0x00, 0xFF]);
+    each_shape_over(
+        judge,
+        random,
+        three,
+        [3, 1, 3, 8],
+        &[0xF0, 0xF0, 0xF0, 0xFF, 0xFF, 0xFF, 0x00, 0x00, 0x00],
+        &[0x00, 0xFF],
+    );
 }
 
 /// Chunk, active pages, DFU pages and state words; the state area starts as given.

@@ -128,11 +128,11 @@ fn around(length: usize, unit: usize) -> [usize; 8] {
 /// Admitted inputs to start from; the first is the sheet's.
 const STARTS: [Input; 6] = [
     Input { numbers: [4, 2, 4, 2, 16, 1, 2], la: 12, ld: 16, ls: 16, ..PLAIN },
-    Input { numbers: [4, 2, 4, 2, 2, 2, 4], la: 4, ld: 12, ls: 12, ..PLAIN },
-    Input { numbers: [8, 2, 4, 4, 6, 3, 4], la: 8, ld: 16, ls: 18, ..PLAIN },
+    Input { numbers: [4, 2, 4, 2, 2, 2, 4], la: 4, ld: 12, ls: 14, ..PLAIN },
+    Input { numbers: [8, 2, 4, 4, 6, 3, 4], la: 8, ld: 16, ls: 24, ..PLAIN },
     Input { numbers: [2, 1, 6, 3, 4, 4, 6], la: 0, ld: 12, ls: 12, ..PLAIN },
-    Input { numbers: [1, 1, 1, 1, 1, 1, 1], la: 2, ld: 3, ls: 10, ..PLAIN },
-    Input { numbers: [64, 16, 64, 32, 40, 8, 32], la: 128, ld: 256, ls: 80, ..PLAIN },
+    Input { numbers: [1, 1, 1, 1, 1, 1, 1], la: 2, ld: 3, ls: 11, ..PLAIN },
+    Input { numbers: [64, 16, 64, 32, 40, 8, 32], la: 128, ld: 256, ls: 120, ..PLAIN },
 ];
 
 const PLAIN: Input = Input { numbers: [0; 7], la: 0, ld: 0, ls: 0, offset: 0, data: 0, out: 0, magic: 0xFF };
@@ -250,8 +250,8 @@ pub fn large(judge: &mut Judge, _: &mut Random) {
     let mut table = Table::default();
     let mut page = Input { numbers: [65_536; 7], ..PLAIN };
     page.ls = 2 * 65_536;
-    // the largest numbers at once: one page needs six words
-    let largest = Input { la: 65_536, ld: 131_072, ls: 393_216, magic: 0xF0, ..page };
+    // the largest numbers at once: one page needs seven words
+    let largest = Input { la: 65_536, ld: 131_072, ls: 458_752, magic: 0xF0, ..page };
     for budget in [0, 1, 3, 5, 6, u32::MAX] {
         table.ask(judge, Kind::PrepareBoot, &largest, budget);
     }

@@ -97,7 +97,7 @@ pub fn few_chunks(g: &Geometry) -> Vec<usize> {
 
 /// State lengths for N pages: the shortest admitted, one unit and three units more.
 pub fn state_lengths(g: &Geometry, pages: usize) -> [usize; 3] {
-    let fewest = 3.max(4 * pages + 2) * g.ws as usize;
+    let fewest = (4 * pages + 3) * g.ws as usize;
     let units = fewest.div_ceil(g.es as usize);
     [units, units + 1, units + 3].map(|units| units * g.es as usize)
 }

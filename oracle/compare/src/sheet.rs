@@ -125,16 +125,23 @@ fn k_and_l(judge: &mut Judge) -> usize {
     let boot = Kind::PrepareBoot;
     let start = runs(&[(1, 0xF0), (13, 0xFF)]);
     let k = Sheet::start(judge, [4, 2, 4, 2, 14, 1], &[1, 2, 3], &[4, 5, 6, 7], start)
-        .run("k", boot, 24, pack(DONE, 1, 24))
+        .run("k", boot, 24, pack(4, NO_STATE, 0))
         .run("k", Kind::StateMarkBooted, 1, pack(CUT, NO_STATE, 1))
-        .run("k", boot, 7, pack(DONE, 1, 7))
-        .shows("k", &[4, 5, 3], &[4, 1, 2, 3], &[(1, 0xC0), (13, 0xFF)])
+        .run("k", boot, 7, pack(4, NO_STATE, 0))
+        .shows("k", &[1, 2, 3], &[4, 5, 6, 7], &[(1, 0xF0), (1, 0x00), (12, 0xFF)])
+        .failed;
+    let start = runs(&[(1, 0xF0), (14, 0xFF)]);
+    let more = Sheet::start(judge, [4, 2, 4, 2, 15, 1], &[1, 2, 3], &[4, 5, 6, 7], start)
+        .run("k with a word more", boot, 24, pack(DONE, 1, 24))
+        .run("k with a word more", Kind::StateMarkBooted, 1, pack(CUT, NO_STATE, 1))
+        .run("k with a word more", boot, 7, pack(DONE, 1, 3))
+        .shows("k with a word more", SWAPPED.0, SWAPPED.1, &[(1, 0xC0), (14, 0xFF)])
         .failed;
     let l = Sheet::start(judge, [4, 2, 4, 2, 3, 1], &[], &[7], runs(&[(1, 0xF0), (2, 0xFF)]))
         .run("l", boot, 3, pack(DONE, 1, 3))
         .shows("l", &[], &[7], &[(1, 0xC0), (2, 0xFF)])
         .failed;
-    k + l
+    k + more + l
 }
 
 /// The examples below the sheet.

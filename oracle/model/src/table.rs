@@ -130,7 +130,7 @@ fn row_3(f: &Facts, family: Family) -> bool {
 /// The state area isn't whole units of words, or has too few words.
 fn row_4(f: &Facts, family: Family) -> bool {
     let short = match family {
-        Family::Boot => f.words() < 4 * f.pages() + 2 || f.words() < 3,
+        Family::Boot => f.words() < 4 * f.pages() + 3,
         _ => f.words() < 2,
     };
     uneven(f.es, f.ws) || uneven(f.ls, f.es) || short
