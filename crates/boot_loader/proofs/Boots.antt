@@ -9,7 +9,7 @@ use Prim.Native.Nat.{ℕ, _-_, _*_, _/_, _≤_, _<_}
 use native.Mathlib.Omega.{arith}
 use lib.Dec.{ltb}
 use lib.ListN.{length}
-use borrow.Author.Tests.{not-true, not-false}
+use borrow.Author.Tests.{lt-ltb, le-ltb, not-true, not-false}
 use types.Run.{OneOf}
 use denote.Enum.Declared.{tagOf}
 use Rattle.state.proofs.State.{the-type}
@@ -32,10 +32,10 @@ use Rattle.mem_flash.specs.Flash.{Flash, Op}
 use Rattle.mem_flash.specs.Run.{flash, ended, run, Ran}
 use Rattle.mem_flash.proofs.Runs.{then-on, then-cut, ran, run-of}
 use Rattle.rules.specs.declared.Answer.the-variants as answers
-use Rattle.rules.specs.StateArea.{readState, progress, invalidateOp}
+use Rattle.rules.specs.StateArea.{readState, valid, marksDone, progress, invalidateOp}
 use Rattle.rules.specs.Steps.{pageCount, swapOps, revertOps}
 use Rattle.rules.specs.Calls.{Did}
-use Rattle.rules.specs.Boot.{renewOps, finishOps, bootOpsIn, bootOps, prepareBoot}
+use Rattle.rules.specs.Boot.{renewOps, finishOps, swapOrRevertOps, confirming, bootOpsIn, bootOps, prepareBoot}
 use Rattle.rules.proofs.Did.{verdict-admitted, did-refused, did-nothing, did-cut, did-find}
 use Rattle.state_area.specs.Area.{Invalidated, Renewed}
 
@@ -44,38 +44,70 @@ use Rattle.state_area.specs.Area.{Invalidated, Renewed}
 module _ (g : Geometry) (k : ℕ) (A D S A₁ D₁ S₁ : List ℕ) (r : Flow) (b : Bool)
     (asked : b ≡ not (ltb (progress (g .ws) S) (2 * pages g (length A)))) where
   pub boot-swap : b ≡ false → Ran k (swapOps g (flash A D S)) (flash A D S) (flash A₁ D₁ S₁) r
-      → Ran k (bootOpsIn Swap g (flash A D S)) (flash A D S) (flash A₁ D₁ S₁) r
-  unfolding bootOpsIn pick pageCount
+      → Ran k (swapOrRevertOps g (flash A D S)) (flash A D S) (flash A₁ D₁ S₁) r
+  unfolding swapOrRevertOps pick pageCount
   boot-swap n w =
       let z : ltb (progress (g .ws) S) (2 * pages g (length A)) ≡ true = not-false _ (sym asked ∙ n) in
       rw z w
 
   module _ (y : b ≡ true) (w : Ran k (revertOps g (flash A D S)) (flash A D S) (flash A₁ D₁ S₁) r) where
     ends : (f : Flash) (q : Flow) → run k (revertOps g (flash A D S) ++ finishOps g (flash A D S)) (flash A D S) ≡ ended f q
-        → Ran k (bootOpsIn Swap g (flash A D S)) (flash A D S) f q
-    unfolding bootOpsIn pick pageCount
+        → Ran k (swapOrRevertOps g (flash A D S)) (flash A D S) f q
+    unfolding swapOrRevertOps pick pageCount
     ends f q v =
         let z : ltb (progress (g .ws) S) (2 * pages g (length A)) ≡ false = not-true _ (sym asked ∙ y) in
         rw z (ran _ _ _ _ _ v)
 
-    pub revert-cut : r ≡ Cut → Ran k (bootOpsIn Swap g (flash A D S)) (flash A D S) (flash A₁ D₁ S₁) Cut
+    pub revert-cut : r ≡ Cut → Ran k (swapOrRevertOps g (flash A D S)) (flash A D S) (flash A₁ D₁ S₁) Cut
     revert-cut o = ends _ _ (then-cut k (revertOps g (flash A D S)) _ _ _ r (run-of _ _ _ _ _ w) o)
 
     module _ (l : Budget) (o : r ≡ On l) (S₂ : List ℕ) (q : Flow) (i : Invalidated (l .0) (g .ws) S₁ S₂ q) where
       -- the revert's end, from what the invalidation answers
       finish : (f : Flash) (p : Flow) → run (l .0) (invalidateOp (g .ws) ∷ renewOps (g .es) (g .ws) (length S) (magic Revert)) (flash A₁ D₁ S₁) ≡ ended f p
-          → Ran k (bootOpsIn Swap g (flash A D S)) (flash A D S) f p
+          → Ran k (swapOrRevertOps g (flash A D S)) (flash A D S) f p
       unfolding finishOps
       finish f p v = ends f p (then-on k (revertOps g (flash A D S)) _ _ _ r (run-of _ _ _ _ _ w) l o ∙ v)
 
-      pub invalid-cut : q ≡ Cut → Ran k (bootOpsIn Swap g (flash A D S)) (flash A D S) (flash A₁ D₁ S₂) Cut
+      pub invalid-cut : q ≡ Cut → Ran k (swapOrRevertOps g (flash A D S)) (flash A D S) (flash A₁ D₁ S₂) Cut
       invalid-cut p = finish _ _ (then-cut (l .0) (invalidateOp (g .ws) ∷ []) _ _ _ q (i A₁ D₁) p)
 
       pub boot-revert : (m : Budget) (S₃ : List ℕ) (p : Flow) → q ≡ On m → length S₂ ≡ length S → Renewed (m .0) (g .es) (g .ws) 0xC0 S₂ S₃ p
-          → Ran k (bootOpsIn Swap g (flash A D S)) (flash A D S) (flash A₁ D₁ S₃) p
+          → Ran k (swapOrRevertOps g (flash A D S)) (flash A D S) (flash A₁ D₁ S₃) p
       unfolding magic
       boot-revert m S₃ p e z v =
           finish _ _ (then-on (l .0) (invalidateOp (g .ws) ∷ []) _ _ _ q (i A₁ D₁) m e ∙ (rw z at (v A₁ D₁)))
+
+-- ---- a confirmation that was cut
+
+-- the three ways out of the question
+module _ (ws n : ℕ) (st : List ℕ) where
+  pub counts-still : valid ws st ≡ true → false ≡ confirming ws n st
+  unfolding confirming pick
+  counts-still v = sym (rw v)
+
+  module _ (v : valid ws st ≡ false) (m : ℕ) (d : m ≡ marksDone ws st) where
+    pub swap-unfinished : m < 2 * n → false ≡ confirming ws n st
+    unfolding confirming pick
+    swap-unfinished h = sym (rw (v, ← d, lt-ltb _ _ h))
+
+    pub revert-asked : 2 * n ≤ m → ltb m (4 * n) ≡ confirming ws n st
+    unfolding confirming pick
+    revert-asked h = sym (rw (v, ← d, le-ltb _ _ h))
+
+module _ (g : Geometry) (k : ℕ) (A D S : List ℕ) (b : Bool) (asked : b ≡ confirming (g .ws) (pages g (length A)) S) where
+  pub boot-copies : b ≡ false → (f : Flash) (r : Flow) → Ran k (swapOrRevertOps g (flash A D S)) (flash A D S) f r
+      → Ran k (bootOpsIn Swap g (flash A D S)) (flash A D S) f r
+  unfolding bootOpsIn pick pageCount
+  boot-copies n f r w =
+      let z : confirming (g .ws) (pages g (length A)) S ≡ false = sym asked ∙ n in
+      rw z w
+
+  pub boot-confirms : b ≡ true → (S₁ : List ℕ) (r : Flow) → Renewed k (g .es) (g .ws) 0xD0 S S₁ r
+      → Ran k (bootOpsIn Swap g (flash A D S)) (flash A D S) (flash A D S₁) r
+  unfolding bootOpsIn pick pageCount magic
+  boot-confirms y S₁ r w =
+      let z : confirming (g .ws) (pages g (length A)) S ≡ true = sym asked ∙ y in
+      rw z (ran _ _ _ _ _ (w A D))
 
 -- ---- the call
 

@@ -8,12 +8,13 @@ ghost use lib.Dec.{ltb};
 ghost use lib.ListN.{length};
 ghost use Rattle.state.specs.declared.State.{State};
 ghost use Rattle.geometry.specs.Geometry.{page, pages};
+ghost use Rattle.geometry.specs.Refusals.{mostLength};
 ghost use Rattle.geometry.specs.Admitted.{Admitted};
 ghost use Rattle.mem_flash.specs.Run.{InArea, Ran, flash};
 ghost use Rattle.rules.specs.StateArea.{progress, markOp};
 ghost use Rattle.rules.specs.Steps.{toDfu, toActive, chunkOps, fillOps, onceOps, swapOps, revertOps};
 ghost use Rattle.rules.specs.Calls.{reported, report, Did};
-ghost use Rattle.rules.specs.Boot.{bootOpsIn, prepareBoot, getState};
+ghost use Rattle.rules.specs.Boot.{swapOrRevertOps, confirming, bootOpsIn, prepareBoot, getState};
 ghost use Rattle.state_area.specs.Area.{InState};
 ghost use Rattle.boot_loader.specs.Room.{Room};
 use geometry::Geometry;
@@ -59,7 +60,7 @@ impl BootLoader {
         let State::Swap = found else {
             return Answer::Found(found, 0);
         };
-        let Flow::On(rest) = self.swap_or_revert(active, dfu, state, Budget(budget)) else {
+        let Flow::On(rest) = self.confirm_or_copy(active, dfu, state, Budget(budget)) else {
             return Answer::Cut(budget);
         };
         let count = budget - rest.0;
@@ -78,7 +79,8 @@ impl BootLoader {
         Answer::Found(state_area::read(state, g.ws as usize), 0)
     }
 
-    fn swap_or_revert(
+    // A confirmation that was cut is finished: the image that was booted stays, and no copy is made. The Rust knows no such case.
+    fn confirm_or_copy(
         self,
         active: &mut [u8],
         dfu: &mut [u8],
@@ -88,6 +90,45 @@ impl BootLoader {
         requires { ⌜ Admitted (self .geometry) (length (now active)) (length (now dfu)) (length (now state)) ⌝ }
         ensures { λ r. ⌜ Ran (left .0)
             (bootOpsIn State.Swap (self .geometry) (flash (now (active .entry)) (now (dfu .entry)) (now (state .entry))))
+            (flash (now (active .entry)) (now (dfu .entry)) (now (state .entry)))
+            (flash (now (active .exit)) (now (dfu .exit)) (now (state .exit))) r ⌝ }
+    {
+        if !self.is_confirming(active, state) {
+            return self.swap_or_revert(active, dfu, state, left);
+        }
+        let es = self.geometry.es as usize;
+        let ws = self.geometry.ws as usize;
+        state_area::renew(state, es, ws, State::BOOT_MAGIC, left)
+    }
+
+    // The progress does not count, and the marks are those of a finished swap and of a revert that is not finished.
+    fn is_confirming(self, active: &[u8], state: &[u8]) -> bool
+        requires { ⌜ (0 < page (self .geometry)) × (length (now active) ≤ mostLength) ⌝ }
+        ensures { λ r. ⌜ r ≡ confirming (self .geometry .ws) (pages (self .geometry) (length (now (active .entry)))) (now (state .entry)) ⌝ }
+    {
+        let g = self.geometry;
+        let ws = g.ws as usize;
+        if state_area::is_valid(state, ws) {
+            return false;
+        }
+        let page_count = active.len() / g.page_size();
+        let done = state_area::marks_done(state, ws);
+        if done < 2 * page_count {
+            return false;
+        }
+        done < 4 * page_count
+    }
+
+    fn swap_or_revert(
+        self,
+        active: &mut [u8],
+        dfu: &mut [u8],
+        state: &mut [u8],
+        left: Budget,
+    ) -> Flow
+        requires { ⌜ Admitted (self .geometry) (length (now active)) (length (now dfu)) (length (now state)) ⌝ }
+        ensures { λ r. ⌜ Ran (left .0)
+            (swapOrRevertOps (self .geometry) (flash (now (active .entry)) (now (dfu .entry)) (now (state .entry))))
             (flash (now (active .entry)) (now (dfu .entry)) (now (state .entry)))
             (flash (now (active .exit)) (now (dfu .exit)) (now (state .exit))) r ⌝ }
     {

@@ -19,7 +19,7 @@ use Rattle.mem_flash.specs.Flash.{Area, active, dfu, state, Flash, Op, erase, w
 use Rattle.rules.specs.StateArea.{readState, progress, markOp, invalidateOp}
 use Rattle.rules.specs.Steps.{Copy, sourceOf, unitOf, chunkOps, fillOps, copyOps, onceOps, copiesOps, swapSteps, revertSteps, pageCount, swapOps, revertOps}
 use Rattle.rules.specs.Calls.{Report, Call, report, left}
-use Rattle.rules.specs.Boot.{renewOps, finishOps, bootOpsIn, bootOps, prepareBoot, getState}
+use Rattle.rules.specs.Boot.{renewOps, finishOps, swapOrRevertOps, confirming, bootOpsIn, bootOps, prepareBoot, getState}
 use Rattle.rules.specs.FirmwareState.{setMagicOps, mark}
 use Rattle.rules.specs.FirmwareUpdater.{pieces, piecesOps, remembered, pending, pastEnd, badRange, updaterCall, updaterGetState, updaterMark, updaterMarkUpdated, updaterMarkDfu, updaterMarkBooted, readDfu, writeFirmware, memory, prepareUpdate}
 use Rattle.power.specs.Alike.{Alike, SameAnswers, ImagesAside}
@@ -182,14 +182,32 @@ module _ (g : Geometry) where
     unfolding finishOps
     same-finish = ap (λ (st : List ℕ). invalidateOp (g .ws) ∷ renewOps (g .es) (g .ws) (length st) (magic Revert)) (e .state)
 
+    same-renew : renewOps (g .es) (g .ws) (length (f .state)) (magic Boot) ≡ renewOps (g .es) (g .ws) (length (h .state)) (magic Boot)
+    same-renew = ap (λ (st : List ℕ). renewOps (g .es) (g .ws) (length st) (magic Boot)) (e .state)
+
+    same-confirming : confirming (g .ws) (pageCount g f) (f .state) ≡ confirming (g .ws) (pageCount g h) (h .state)
+    same-confirming = ap₂ (confirming (g .ws)) same-pages (e .state)
+
+    -- the same operations by a path
+    alike-path : (os ps : List Op) → os ≡ ps → AlikeOps os ps
+    alike-path os ps p = subst (AlikeOps os) p (same os)
+
+    alike-swap-or-revert : AlikeOps (swapOrRevertOps g f) (swapOrRevertOps g h)
+    unfolding swapOrRevertOps
+    alike-swap-or-revert =
+        subst (λ (b : Bool). AlikeOps (swapOrRevertOps g f) (pick b (swapOps g h) (revertOps g h ++ finishOps g h)))
+        (ap₂ (λ (st : List ℕ) (n : ℕ). ltb (progress (g .ws) st) (2 * n)) (e .state) same-pages)
+        (alike-pick (ltb (progress (g .ws) (f .state)) (2 * pageCount g f)) alike-swap
+        (alike-append alike-revert _ _ (alike-path (finishOps g f) (finishOps g h) same-finish)))
+
     alike-in : (s : State) → AlikeOps (bootOpsIn s g f) (bootOpsIn s g h)
     unfolding bootOpsIn
     alike-in Boot = nothing
     alike-in Swap =
-        subst (λ (b : Bool). AlikeOps (bootOpsIn Swap g f) (pick b (swapOps g h) (revertOps g h ++ finishOps g h)))
-        (ap₂ (λ (st : List ℕ) (n : ℕ). ltb (progress (g .ws) st) (2 * n)) (e .state) same-pages)
-        (alike-pick (ltb (progress (g .ws) (f .state)) (2 * pageCount g f)) alike-swap
-        (alike-append alike-revert _ _ (subst (AlikeOps (finishOps g f)) same-finish (same (finishOps g f)))))
+        subst (λ (b : Bool). AlikeOps (bootOpsIn Swap g f)
+        (pick b (renewOps (g .es) (g .ws) (length (h .state)) (magic Boot)) (swapOrRevertOps g h)))
+        same-confirming
+        (alike-pick (confirming (g .ws) (pageCount g f) (f .state)) (alike-path _ _ same-renew) alike-swap-or-revert)
     alike-in Revert = nothing
     alike-in DfuDetach = nothing
 

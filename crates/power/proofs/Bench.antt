@@ -1,22 +1,25 @@
--- The bench sheet's start under specs/Power, by computation (specs/Bench). Assumes nothing.
+-- The bench sheet's start under specs/Power and specs/Confirm, by computation (specs/Bench). Assumes nothing.
 use mathlib.Core.Path.{_≡_, refl}
 use mathlib.Core.List.{map}
 use lib.Dec.{lit<, lit≤}
 use Rattle.state.specs.Choice.{pick}
 use Rattle.state.specs.Magic.{erased, marked, magic, throughout, holds, stateOf}
 use Rattle.geometry.specs.Geometry.{page, pages, words}
-use Rattle.geometry.specs.Refusals.{any, rowFrom, lowest, mostNumber, mostLength, badNumber, tooLong, uneven, outside, unevenPage, unevenAreas, badState, bootWords, bootNumbers, bootRefusal}
+use Rattle.geometry.specs.Refusals.{any, rowFrom, lowest, mostNumber, mostLength, badNumber, tooLong, uneven, outside, unevenPage, unevenAreas, badState, otherWords, bootWords, bootNumbers, bootRefusal, stateRefusal}
 use Rattle.mem_flash.specs.Flash.{programmed, blank, program, erasedAt, writtenAt, change, apply, applyAll, after, unitOps, eraseOps}
-use Rattle.rules.specs.StateArea.{word, readState, valid, markOpen, mostMarks, firstOpen, progress, markOp, invalidateOp, magicOp}
+use Rattle.rules.specs.StateArea.{word, readState, valid, markOpen, mostMarks, firstOpen, marksDone, progress, markOp, invalidateOp, magicOp}
 use Rattle.rules.specs.Steps.{toDfu, toActive, swapFrom, revertFrom, swapSteps, revertSteps, sourceOf, unitOf, chunkOps, fillOps, copyOps, onceOps, copiesOps, pageCount, swapOps, revertOps}
 use Rattle.rules.specs.Calls.{report, left}
-use Rattle.rules.specs.Boot.{renewOps, finishOps, bootOpsIn, bootOps, prepareBoot}
+use Rattle.rules.specs.Boot.{renewOps, finishOps, swapOrRevertOps, confirming, bootOpsIn, bootOps, prepareBoot}
+use Rattle.rules.specs.FirmwareState.{setMagicOps, mark}
 use Rattle.rules.specs.Power.{magicArea, Fresh, swapMarks, swapTable, pageAt, withPage, revertImages, reverted, revertMarks, revertedPart, revertedErased, stateUnits, stepCost}
 use Rattle.rules.specs.Sheet.{budget, call, walk, computed, told, done, cut, sizes, fresh, pages as filled, zeros, ff}
 use Rattle.rules.proofs.Sheet.{swapped-sheet, reverted-sheet}
 use Rattle.power.specs.Power.{Marked, Ready}
-use Rattle.power.specs.Bench.{noPages, OnTheBench, fine, fineCase, finely, InUnits}
+use Rattle.power.specs.Bench.{noPages, OnTheBench, fine, fineCase, finely, InUnits, confirmation, Unconfirmed}
+use Rattle.power.specs.Confirm.{Swapped, firmware-state, CutConfirmation, voidMarks, confirmedPart, confirmedWhole}
 use Rattle.power.proofs.Proved.{power, no-pages}
+use Rattle.power.proofs.Confirmed.{confirming as cut-confirmed}
 
 ready : Ready (sizes 16) (fresh 15)
 unfolding pick erased magic page pages words any rowFrom lowest mostNumber mostLength badNumber tooLong uneven outside unevenPage unevenAreas badState bootWords bootNumbers bootRefusal pageCount magicArea Fresh sizes fresh filled ff
@@ -59,11 +62,11 @@ ready-fine =
     }
 
 cases-fine : map computed finely ≡ map told finely
-unfolding pick erased marked magic throughout holds stateOf page pages words any rowFrom lowest mostNumber mostLength badNumber tooLong uneven outside unevenPage unevenAreas badState bootWords bootNumbers bootRefusal programmed blank program erasedAt writtenAt change apply applyAll after unitOps eraseOps word readState valid markOpen mostMarks firstOpen progress markOp invalidateOp magicOp toDfu toActive swapFrom revertFrom swapSteps revertSteps sourceOf unitOf chunkOps fillOps copyOps onceOps copiesOps pageCount swapOps revertOps report left renewOps finishOps bootOpsIn bootOps prepareBoot budget call walk computed told done cut magicArea swapMarks swapTable pageAt withPage revertImages reverted revertMarks revertedPart ff zeros fresh filled fine fineCase finely
+unfolding pick erased marked magic throughout holds stateOf page pages words any rowFrom lowest mostNumber mostLength badNumber tooLong uneven outside unevenPage unevenAreas badState otherWords bootWords bootNumbers bootRefusal stateRefusal programmed blank program erasedAt writtenAt change apply applyAll after unitOps eraseOps word readState valid markOpen mostMarks firstOpen marksDone progress markOp invalidateOp magicOp toDfu toActive swapFrom revertFrom swapSteps revertSteps sourceOf unitOf chunkOps fillOps copyOps onceOps copiesOps pageCount swapOps revertOps report left renewOps finishOps swapOrRevertOps confirming bootOpsIn bootOps prepareBoot budget call walk computed told done cut magicArea swapMarks swapTable pageAt withPage revertImages reverted revertMarks revertedPart setMagicOps mark voidMarks confirmedPart confirmedWhole ff zeros fresh filled fine fineCase finely
 cases-fine = refl
 
 pub in-units : InUnits
-unfolding erased marked magic page pages blank pageCount unitOf pageAt withPage revertImages revertMarks revertedPart stateUnits stepCost fresh filled zeros ff fine
+unfolding erased marked magic page pages blank pageCount unitOf pageAt withPage revertImages revertMarks revertedPart swapMarks swapTable voidMarks confirmedPart stateUnits stepCost fresh filled zeros ff fine
 in-units =
     record {
       ready = ready-fine;
@@ -72,5 +75,27 @@ in-units =
       units = refl;
       cases = cases-fine;
       part = refl;
+      confirmed = refl;
       power = power fine (fresh 15) ready-fine;
+    }
+
+-- ---- a confirmation that was cut
+
+swapped : Swapped (sizes 16) (swapTable (sizes 16) (fresh 15))
+unfolding pick erased marked magic page pages words any rowFrom lowest mostNumber mostLength badNumber tooLong uneven outside unevenPage unevenAreas badState bootWords bootNumbers bootRefusal pageCount swapMarks swapTable sizes fresh filled ff
+swapped = record { admitted = refl; some-page = lit≤ tt; state = refl }
+
+cut-one : CutConfirmation confirmation 1
+unfolding pick erased marked magic throughout page pages words any rowFrom lowest mostNumber mostLength badNumber tooLong uneven outside badState otherWords stateRefusal pageCount unitOps eraseOps word valid report renewOps setMagicOps mark swapMarks swapTable sizes fresh filled ff confirmation
+cut-one = record { cut = refl; invalidated = lit≤ tt }
+
+pub unconfirmed : Unconfirmed
+unfolding erased marked magic page pages pageCount magicArea swapMarks swapTable confirmedWhole sizes fresh filled ff confirmation
+unconfirmed =
+    record {
+      swapped = swapped;
+      cut = cut-one;
+      confirms =
+          cut-confirmed (sizes 16) (swapTable (sizes 16) (fresh 15)) swapped confirmation firmware-state 1 cut-one;
+      booted = refl;
     }

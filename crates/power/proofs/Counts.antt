@@ -5,7 +5,7 @@ use mathlib.Core.Path.{_≡_, refl, ap}
 use mathlib.Core.Bool.{Bool, true, false}
 use mathlib.Core.List.{List, [], _∷_, _++_}
 use Prim.Native.Nat.{ℕ, zero, suc, _+_, _*_, _/_, _≤_, _<_, max, zero-le}
-use native.Mathlib.Nat.{mul-le-mul-left, div-le-self, div-le-of-le-mul, le-max-left, le-max-right}
+use native.Mathlib.Nat.{mul-le-mul-left, div-le-self, le-max-left, le-max-right}
 use native.Mathlib.Omega.{arith}
 use lib.Dec.{eqb, lit<}
 use lib.ListN.{length, drop, length-append}
@@ -20,12 +20,12 @@ use Rattle.geometry.specs.Geometry.{page, pages}
 use Rattle.geometry.specs.Refusals.{any, mostLength, uneven, outside, stateRefusal, updaterRefusal, lowest}
 use Rattle.geometry.proofs.Rows.{admitted, updater-admits}
 use Rattle.geometry.proofs.Tests.{any-none, row-none, length-in, even-times, page-some}
-use Rattle.mem_flash.specs.Flash.{Area, active, dfu, state, Flash, Op, erase, write, applyAll, eraseOps}
+use Rattle.mem_flash.specs.Flash.{Area, active, dfu, state, Flash, Op, erase, write, applyAll}
 use Rattle.rules.specs.declared.Sector.{Sector}
 use Rattle.rules.specs.declared.Sector.the-variants.{At}
 use Rattle.rules.specs.StateArea.{valid, invalidateOp}
 use Rattle.rules.specs.Steps.{Copy, unitOf, copyOps, onceOps, copiesOps, swapSteps, revertSteps, pageCount, swapOps, revertOps}
-use Rattle.rules.specs.Boot.{renewOps, finishOps, bootOpsIn, bootOps, prepareBoot}
+use Rattle.rules.specs.Boot.{renewOps, finishOps, swapOrRevertOps, bootOpsIn, bootOps, prepareBoot}
 use Rattle.rules.specs.FirmwareState.{setMagicOps, mark}
 use Rattle.rules.specs.FirmwareUpdater.{room, Piece, piecesFrom, pieces, remembers, piecesOps, pastEnd, badRange, updaterCall, updaterMark, updaterMarkUpdated, updaterMarkDfu, updaterMarkBooted, writeFirmware, prepareUpdate}
 use Rattle.rules.specs.Power.{stateUnits, stepCost, dearerCost}
@@ -88,9 +88,12 @@ module _ (g : Geometry) (f : Flash) where
       )
 
   boot-in-most : (s : State) → length (bootOpsIn s g f) ≤ most
-  unfolding bootOpsIn
+  unfolding bootOpsIn swapOrRevertOps stateUnits
   boot-in-most Boot = zero-le
-  boot-in-most Swap = pick-count _ (swapOps g f) (revertOps g f ++ finishOps g f) _ swap-most revert-most
+  boot-in-most Swap =
+      pick-count _ (renewOps (g .es) (g .ws) (length (f .state)) (magic Boot)) (swapOrRevertOps g f) _
+      (omega (arith, renew-count (g .es) (g .ws) (length (f .state)) (magic Boot)))
+      (pick-count _ (swapOps g f) (revertOps g f ++ finishOps g f) _ swap-most revert-most)
   boot-in-most Revert = zero-le
   boot-in-most DfuDetach = zero-le
 

@@ -1,5 +1,5 @@
 -- The laws of every call under every budget (specs/Cuts): `lawful` for any call with a number of the table, `every-call` for
--- those of the crate. Runs and Marking cite the first section. Assumes nothing.
+-- those of the crate. Runs, Marking and Confirmed cite the first sections. Assumes nothing.
 use mathlib.Core.Path.{_≡_, sym, ap, _∙_}
 use mathlib.Core.Bool.{Bool, true, false}
 use mathlib.Core.Option.{none}
@@ -123,7 +123,7 @@ pub state-rows : (es ws ls : ℕ) → stateRefusal es ws ls < 7
 unfolding stateRefusal
 state-rows es ws ls = lowest-below _ (lit< tt)
 
-updater-rows : (z : Sizes) (ld ls : ℕ) (swap range : Bool) → updaterRefusal z ld ls swap range < 7
+pub updater-rows : (z : Sizes) (ld ls : ℕ) (swap range : Bool) → updaterRefusal z ld ls swap range < 7
 unfolding updaterRefusal
 updater-rows z ld ls swap range = lowest-below _ (lit< tt)
 

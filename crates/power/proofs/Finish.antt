@@ -1,5 +1,6 @@
 -- The operations that end a revert, on a state area that may hold anything: invalidate, erase the state area unit by unit, write the
--- magic; all but the first are those of every mark. Cited by Reverted, Settled and Marking, and by Counts. Assumes nothing.
+-- magic; all but the first are those of every mark. Cited by Reverted, Settled, Marking, Confirmed and
+-- Counts. Assumes nothing.
 use mathlib.Core.Path.{_≡_, refl, sym, ap, _∙_}
 use mathlib.Core.List.{List, [], _∷_}
 use Prim.Native.Nat.{ℕ, suc, _+_, _-_, _*_, _/_, _≤_}
@@ -88,13 +89,23 @@ module _ (A R : List ℕ) where
       ∙ renewed Revert (g .es) (g .ws) n (writtenAt (g .ws) (replicate (g .ws) marked) st) whole
       (length-written (g .ws) (replicate (g .ws) marked) st ∙ e) h
 
-  -- cut after j units, they hold the first units erased, and the rest invalid but as it was
+  -- cut after j units, they hold the first units erased, and the rest as it was
+  pub renew-part : (es w n m j : ℕ) (st : List ℕ) → j ≤ n / es
+      → applyAll (take j (renewOps es w n m)) (closed A R st) ≡ closed A R (blank (j * es) st)
+  unfolding renewOps
+  renew-part es w n m j st h =
+      cut-first j (eraseOps es state 0 n) (magicOp w m ∷ []) _ (omega (arith, erase-count es state 0 n)) ∙ wiped-part es n j st h
+
+  -- and with the invalidation first, invalid
+  pub void-part : (es w n m j : ℕ) (st : List ℕ) → j ≤ n / es
+      → applyAll (take (suc j) (invalidateOp w ∷ renewOps es w n m)) (closed A R st)
+      ≡ closed A R (blank (j * es) (writtenAt w (replicate w marked) st))
+  unfolding applyAll
+  void-part es w n m j st h =
+      ap (applyAll (take j (renewOps es w n m))) (invalidated w st) ∙ renew-part es w n m j (writtenAt w (replicate w marked) st) h
+
   pub close-part : (g : Geometry) (n j : ℕ) (st : List ℕ) → j ≤ n / g .es
       → applyAll (take (suc j) (closeOps g n)) (closed A R st)
       ≡ closed A R (blank (j * g .es) (writtenAt (g .ws) (replicate (g .ws) marked) st))
-  unfolding applyAll closeOps renewOps
-  close-part g n j st h =
-      ap (applyAll (take j (renewOps (g .es) (g .ws) n (magic Revert)))) (invalidated (g .ws) st)
-      ∙ cut-first j (eraseOps (g .es) state 0 n) (magicOp (g .ws) (magic Revert) ∷ []) _
-      (omega (arith, erase-count (g .es) state 0 n))
-      ∙ wiped-part (g .es) n j (writtenAt (g .ws) (replicate (g .ws) marked) st) h
+  unfolding closeOps
+  close-part g n j st h = void-part (g .es) (g .ws) n (magic Revert) j st h

@@ -22,7 +22,7 @@ use Rattle.geometry.proofs.Tests.{even-times}
 use Rattle.mem_flash.specs.Flash.{Area, active, dfu, state, Flash, Op, write, applyAll}
 use Rattle.rules.specs.StateArea.{progress, markOp, invalidateOp, magicOp}
 use Rattle.rules.specs.Steps.{Copy, toDfu, toActive, swapFrom, revertFrom, swapSteps, revertSteps, sourceOf, unitOf, chunkOps, fillOps, copyOps, onceOps, copiesOps, pageCount, swapOps, revertOps}
-use Rattle.rules.specs.Boot.{renewOps, finishOps, bootOpsIn, bootOps, prepareBoot}
+use Rattle.rules.specs.Boot.{renewOps, finishOps, swapOrRevertOps, confirming, bootOpsIn, bootOps, prepareBoot}
 use Rattle.power.specs.Inside.{areaOf, writeUnit, Aligned, Within, AllWithin, none, one, BootsInside}
 use Rattle.power.proofs.Areas.{Image, SameLengths, all-lengths}
 use Rattle.power.proofs.Erases.{even-sum, aligned, erase-within}
@@ -188,31 +188,36 @@ module _ (g : Geometry) (f : Flash) (ad : Admitted g (length (f .active)) (lengt
     ),
   )
 
+  renew-within : (m : ℕ) → AllWithin g f (renewOps (g .es) (g .ws) (length (f .state)) m)
+  unfolding renewOps magicOp bootWords unitOf areaOf
+  renew-within m =
+      let sign : Within g f (magicOp (g .ws) m) =
+      subst (λ (i : ℕ). Within g f (write state i (replicate (g .ws) m))) (zero-mul (g .ws))
+      (word-within 0 m (word-there 0 (omega arith))) in
+      within-append
+      (erase-within g f state 0 (length (f .state)) (mod-eq-zero-of-dvd (g .es) (dvd-zero (g .es))) (omega arith))
+      (one sign none)
+
   finish-within : AllWithin g f (finishOps g f)
-  unfolding finishOps renewOps invalidateOp magicOp bootWords unitOf areaOf
+  unfolding finishOps invalidateOp bootWords
   finish-within =
       let void : Within g f (invalidateOp (g .ws)) =
       subst (λ (i : ℕ). Within g f (write state i (replicate (g .ws) marked))) (one-mul (g .ws))
       (word-within 1 marked (word-there 1 (omega arith))) in
-      let sign : Within g f (magicOp (g .ws) (magic Revert)) =
-      subst (λ (i : ℕ). Within g f (write state i (replicate (g .ws) (magic Revert)))) (zero-mul (g .ws))
-      (word-within 0 (magic Revert) (word-there 0 (omega arith))) in
-      one void
-      (within-append
-      (erase-within g f state 0 (length (f .state)) (mod-eq-zero-of-dvd (g .es) (dvd-zero (g .es))) (omega arith))
-      (one sign none))
+      one void (renew-within (magic Revert))
 
   same : SameLengths f f
   same = record { active = refl; dfu = refl; state = refl }
 
   in-within : (s : State) → AllWithin g f (bootOpsIn s g f)
-  unfolding bootOpsIn swapOps swapSteps revertOps revertSteps
+  unfolding bootOpsIn swapOrRevertOps swapOps swapSteps revertOps revertSteps
   in-within Boot = none
   in-within Swap =
-      within-pick (ltb (progress (g .ws) (f .state)) (2 * pageCount g f))
+      within-pick (confirming (g .ws) N (f .state)) (renew-within (magic Boot))
+      (within-pick (ltb (progress (g .ws) (f .state)) (2 * pageCount g f))
       (copies-within (swapFrom N 0) f same (swap-lies N 0 (omega arith) (omega arith)))
       (within-append (copies-within (revertFrom N 0 (2 * N)) f same
-      (revert-lies N 0 (2 * N) (omega arith) (omega arith))) finish-within)
+      (revert-lies N 0 (2 * N) (omega arith) (omega arith))) finish-within))
   in-within Revert = none
   in-within DfuDetach = none
 

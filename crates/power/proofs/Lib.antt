@@ -22,3 +22,4 @@ pub mod Marks
 pub mod Settled
 pub mod Marking
 pub mod Carried
+pub mod Confirmed

@@ -14,7 +14,7 @@ use Rattle.state.specs.Magic.{erased, marked, throughout, holds, stateOf}
 use Rattle.geometry.specs.Geometry.{words}
 use Rattle.mem_flash.specs.Flash.{program, writtenAt}
 use Rattle.mem_flash.proofs.Bytes.{programmed-marked, marked-not-erased}
-use Rattle.rules.specs.StateArea.{word, readState, valid, markOpen, mostMarks, firstOpen, progress}
+use Rattle.rules.specs.StateArea.{word, readState, valid, markOpen, mostMarks, firstOpen, marksDone, progress}
 use Rattle.rules.proofs.StateWords.{progress-valid, progress-invalid}
 use Rattle.power.proofs.Bytes.{length-written}
 use Rattle.power.proofs.Words.{holds-other}
@@ -118,6 +118,7 @@ module _ (w i : ℕ) (st : List ℕ) where
 
     -- the progress passes the mark
     pub mark-passes : progress w st ≡ i → i < progress w (withMark w i st)
+    unfolding marksDone
     mark-passes e = go (valid w st) refl
       where
         below : firstOpen w st (mostMarks w st) 0 ≡ i → (q : ℕ) → 0 ≤ q → q < suc i → markOpen w (withMark w i st) q ≡ false

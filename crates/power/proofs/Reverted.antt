@@ -3,32 +3,29 @@
 -- erased. Cited by Proved. Assumes nothing.
 use mathlib.Core.Path.{_≡_, refl, sym, ap, ap₂, _∙_, subst}
 use mathlib.Core.Logic.{_⊎_, inl, inr}
-use mathlib.Core.List.{List, [], _∷_, _++_, append-assoc}
+use mathlib.Core.List.{List, [], _∷_, _++_}
 use Prim.Native.Nat.{ℕ, zero, suc, _+_, _-_, _*_, _/_, _≤_, _<_, zero-le}
 use native.Mathlib.Nat.{zero-mul, mul-le-mul-right, mul-div-cancel, not-le-of-lt, lt-of-not-le}
 use native.Mathlib.Decide.{decLe}
 use native.Mathlib.Omega.{arith}
-use lib.ListN.{length, take, drop, replicate, length-append, length-replicate, replicate-append-replicate}
-use lib.Seq.{take-at}
-use Rattle.state.specs.declared.State.{State}
+use lib.ListN.{length, take, length-append}
 use Rattle.state.specs.declared.State.the-variants.{Boot, Swap, Revert}
-use Rattle.state.specs.Magic.{erased, marked, stateOf}
+use Rattle.state.specs.Magic.{erased, marked}
 use Rattle.geometry.specs.declared.Geometry.{Geometry}
 use Rattle.geometry.specs.Geometry.{page, pages}
 use Rattle.mem_flash.specs.Flash.{Flash, Op, blank, applyAll, after}
 use Rattle.rules.specs.StateArea.{word, readState, progress}
 use Rattle.rules.specs.Steps.{Copy, toDfu, toActive, revertFrom, copiesOps, pageCount}
-use Rattle.rules.specs.Boot.{bootOpsIn, bootOps}
+use Rattle.rules.specs.Boot.{bootOps}
 use Rattle.rules.specs.Power.{magicArea, nextCost}
-use Rattle.power.proofs.Bytes.{blank-is}
-use Rattle.power.proofs.Words.{spread, marks, length-spread, length-marks, reads-swap, progress-void, erased-reads-boot, void-written}
+use Rattle.power.proofs.Words.{spread, marks, length-spread, length-marks, reads-swap, done-marks, progress-void, confirming-reverted, blank-boot, void-written}
 use Rattle.power.proofs.Areas.{apply-append, cut-first, cut-past, after-all}
 use Rattle.power.proofs.Finish.{closed, closeOps, close-count, finish-close, finished, close-part}
 use Rattle.power.proofs.Steps.{Whole}
 use Rattle.power.proofs.Way.{Reads, Way, On, Found, on-found, on-end, Outcome, through, stopped, run-on, copies-skip}
 use Rattle.power.proofs.Tables.{revert-count}
 use Rattle.power.proofs.Runs.{Kept}
-use Rattle.power.proofs.Swapped.{boot-reverts}
+use Rattle.power.proofs.Swapped.{boot-idle, boot-reverts}
 
 -- steps whose marks are all read as done
 pub copies-none : (g : Geometry) (f : Flash) (j k i : ℕ) → i + 2 * j ≤ progress (g .ws) (f .state)
@@ -51,21 +48,6 @@ module _ (g : Geometry) (A R : List ℕ) (t n : ℕ) (h : n < t) where
   state-size v =
       let e : length (marks v n (t - n)) ≡ 2 + t = omega (arith, length-marks v n (t - n)) in
       length-spread (g .ws) (marks v n (t - n)) ∙ ap (λ (z : ℕ). z * g .ws) e
-
--- a state area whose first word is erased reads Boot
-blank-boot : (w n : ℕ) (st : List ℕ) → 0 < w → w ≤ n → n ≤ length st → readState w (blank n st) ≡ Boot
-unfolding readState word
-blank-boot w n st some more fit =
-    let r : ℕ = n - w in
-    let e : n ≡ w + r = omega arith in
-    ap stateOf
-    (ap₂ (λ (i : ℕ) (xs : List ℕ). take w (drop i xs)) (zero-mul w)
-    (blank-is n st fit
-    ∙ ap (λ (l : List ℕ). l ++ drop n st)
-    (ap (λ (z : ℕ). replicate z erased) e ∙ sym (replicate-append-replicate w r erased))
-    ∙ append-assoc (replicate w erased) (replicate r erased) (drop n st))
-    ∙ take-at (replicate w erased) (replicate r erased ++ drop n st) w (length-replicate w erased))
-    ∙ erased-reads-boot w some
 
 no-swap : Boot ≡ Swap → ⊥
 no-swap e = let z : _≡_ {A = ℕ} 0 1 = cc in omega arith
@@ -148,8 +130,7 @@ module _ {g : Geometry} {N t : ℕ} {A R : List ℕ} {f₀ : Flash} (course : Co
         (omega (arith, mul-le-mul-right (g .es) most, course .units, state-size g A R t (4 * N) (course .room) marked))
 
     pub gone-idle : bootOps g (gone j) ≡ []
-    unfolding bootOps bootOpsIn
-    gone-idle = ap (λ (s : State). bootOpsIn s g (gone j)) gone-boot
+    gone-idle = boot-idle g (gone j) gone-boot
 
   not-gone : (x : Flash) (j : ℕ) → 1 ≤ j → j ≤ U → x ≡ gone j → readState (g .ws) (x .state) ≡ Swap → ⊥
   not-gone x j one most e swap =
@@ -239,6 +220,9 @@ module _ {g : Geometry} {N t : ℕ} {A R : List ℕ} {f₀ : Flash} (course : Co
         paged = ap (λ (l : ℕ). l / page g) (course .active) ∙ mul-div-cancel N (course .page-some);
         sized = state-size g A R t (4 * N) (course .room) marked;
         done = progress-void (g .ws) (course .ws) (4 * N) (t - 4 * N) (omega (arith, course .room));
+        settled =
+            confirming-reverted (g .ws) N _
+            (omega (arith, done-marks (g .ws) (course .ws) marked (4 * N) (t - 4 * N) (omega (arith, course .room))));
       }
 
   void-wants : bootOps g void ≡ closeOps g S

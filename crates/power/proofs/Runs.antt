@@ -1,6 +1,6 @@
 -- Any number of cut runs: an invariant that one cut run keeps, with so much left to do, is kept by all of them, and what is left
 -- falls by one a run if each budget pays the price. Also what a run of prepare_boot is over its list of operations. Cited by
--- Swapped, Reverted, Proved and Settled. Assumes nothing.
+-- Swapped, Reverted, Proved, Settled and Confirmed. Assumes nothing.
 use mathlib.Core.Path.{_≡_, sym, subst}
 use mathlib.Core.Option.{some}
 use mathlib.Core.List.{List, [], _∷_}
@@ -28,7 +28,7 @@ Admits g f = bootRefusal g (length (f .active)) (length (f .dfu)) (length (f .st
 
 module _ (g : Geometry) (k : ℕ) (f : Flash) (a : Admits g f) where
   -- nor is the next
-  admits-after : (os : List Op) → Admits g (after k os f)
+  pub admits-after : (os : List Op) → Admits g (after k os f)
   unfolding after
   admits-after os = let l = all-lengths (take k os) f in rw (l .active, l .dfu, l .state) a
 

@@ -1,18 +1,19 @@
 -- Of three boots in a row that are not cut, the third does nothing (specs/Settles): `settles`. A swap leaves a progress of 2N or
--- more, a revert leaves the Revert magic, and every other state wants nothing. Assumes nothing.
+-- more, a revert leaves the Revert magic, a confirmation that was cut the Boot magic, and every other state wants nothing. Assumes
+-- nothing.
 use mathlib.Core.Path.{_≡_, refl, sym, ap, _∙_, subst}
+use mathlib.Core.Bool.{Bool, true, false}
 use mathlib.Core.Option.{some}
 use mathlib.Core.Logic.{_⊎_, inl, inr}
 use mathlib.Core.List.{List, [], _∷_, _++_}
 use Prim.Native.Nat.{ℕ, suc, _+_, _-_, _*_, _/_, _≤_, _<_, zero-le}
-use native.Mathlib.Nat.{zero-mul, eq-or-lt-of-le, lt-of-not-le, mul-le-mul-right, div-mul-le-self}
+use native.Mathlib.Nat.{eq-or-lt-of-le, lt-of-not-le, mul-le-mul-right, div-mul-le-self}
 use native.Mathlib.Decide.{decLe}
 use native.Mathlib.Omega.{arith}
-use lib.ListN.{length, take, drop, replicate, length-replicate}
-use lib.Seq.{take-at}
+use lib.ListN.{length, replicate}
 use Rattle.state.specs.declared.State.{State}
 use Rattle.state.specs.declared.State.the-variants.{Boot, Swap, Revert, DfuDetach}
-use Rattle.state.specs.Magic.{erased, marked, magic, stateOf}
+use Rattle.state.specs.Magic.{marked}
 use Rattle.geometry.specs.declared.Geometry.{Geometry}
 use Rattle.geometry.specs.Geometry.{page, pages, words}
 use Rattle.geometry.specs.Refusals.{bootWords}
@@ -20,24 +21,23 @@ use Rattle.geometry.specs.Admitted.{Admitted}
 use Rattle.geometry.proofs.Rows.{admitted}
 use Rattle.geometry.proofs.Tests.{even-times}
 use Rattle.mem_flash.specs.Flash.{Flash, Op, erasedAt, writtenAt, change, apply, applyAll, after}
-use Rattle.rules.specs.StateArea.{word, readState, mostMarks, progress, markOp}
+use Rattle.rules.specs.StateArea.{readState, mostMarks, progress, markOp}
 use Rattle.rules.specs.Steps.{Copy, swapFrom, revertFrom, sourceOf, unitOf, fillOps, copyOps, onceOps, copiesOps, pageCount}
 use Rattle.rules.specs.Calls.{Report}
-use Rattle.rules.specs.Boot.{bootOpsIn, bootOps, prepareBoot}
-use Rattle.rules.specs.Power.{magicArea}
+use Rattle.rules.specs.Boot.{confirming, bootOpsIn, bootOps, prepareBoot}
 use Rattle.power.specs.Power.{answer, ran, Cut, runs}
 use Rattle.power.specs.Inside.{areaOf}
 use Rattle.power.specs.Settles.{Quiet, Settles}
 use Rattle.power.proofs.Bytes.{chunked}
-use Rattle.power.proofs.Words.{revert-reads}
+use Rattle.power.proofs.Words.{revert-reads, boot-reads, area-reads}
 use Rattle.power.proofs.Marks.{withMark, same-state, mark-passes}
 use Rattle.power.proofs.Areas.{apply-append, after-all, after-none, placed-same, Image, state-placed, all-lengths}
 use Rattle.power.proofs.Steps.{fill-placed, Whole, whole-page}
-use Rattle.power.proofs.Finish.{closed, closeOps, finish-close, finished}
+use Rattle.power.proofs.Finish.{closed, closeOps, finish-close, renewed, finished}
 use Rattle.power.proofs.Way.{Reads, once-skip, once-do}
 use Rattle.power.proofs.Tables.{swap-count, Row, swap-row}
 use Rattle.power.proofs.Runs.{Admits, ran-after, admits-ran, whole-long, answer-done}
-use Rattle.power.proofs.Swapped.{boot-swaps, boot-reverts}
+use Rattle.power.proofs.Swapped.{boot-idle, revert-idle, boot-confirms, boot-swaps, boot-reverts}
 
 -- ---- the state area after the swap's steps
 
@@ -109,14 +109,6 @@ row-past g whole (c ∷ cs) i f r h m =
       past = rw d (omega (arith, q .past));
     }
 
--- a state area with the Revert magic reads Revert
-area-reads : (w n : ℕ) → 0 < w → readState w (magicArea w Revert n) ≡ Revert
-unfolding readState word magicArea
-area-reads w n more =
-    ap (λ (i : ℕ). stateOf (take w (drop i (replicate w (magic Revert) ++ replicate (n - w) erased)))) (zero-mul w)
-    ∙ ap stateOf (take-at (replicate w (magic Revert)) (replicate (n - w) erased) w (length-replicate w (magic Revert)))
-    ∙ revert-reads w more
-
 -- ---- one run
 
 module _ (g : Geometry) (f : Flash) (a : Admits g f) where
@@ -133,9 +125,35 @@ module _ (g : Geometry) (f : Flash) (a : Admits g f) where
   some-word : 0 < g .ws
   some-word = ad .numbers .ws .some
 
-  module _ (swap : readState (g .ws) (f .state) ≡ Swap) where
+  some-area : g .ws ≤ length (f .state)
+  unfolding bootWords words
+  some-area =
+      let n : ℕ = length (f .state) in
+      omega (
+        arith,
+        enough,
+        mul-le-mul-right {m = 3} {n = n / g .ws} (g .ws) (omega (arith, enough)),
+        div-mul-le-self n
+            (g .ws),
+      )
+
+  whole-units : length (f .state) / g .es * g .es ≡ length (f .state)
+  whole-units = even-times (length (f .state)) (g .es) (ad .state-units)
+
+  -- a confirmation that is through: the state area reads Boot
+  confirm-through : readState (g .ws) (f .state) ≡ Swap → confirming (g .ws) N (f .state) ≡ true
+      → readState (g .ws) (applyAll (bootOps g f) f .state) ≡ Boot
+  unfolding closed
+  confirm-through swap c =
+      let n : ℕ = length (f .state) in
+      ap (λ (os : List Op). readState (g .ws) (applyAll os f .state)) (boot-confirms g f swap c)
+      ∙ ap (λ (y : Flash). readState (g .ws) (y .state))
+      (renewed (f .active) (f .dfu) Boot (g .es) (g .ws) n (f .state) whole-units refl some-area)
+      ∙ area-reads Boot (g .ws) n (boot-reads (g .ws) some-word)
+
+  module _ (swap : readState (g .ws) (f .state) ≡ Swap) (settled : confirming (g .ws) N (f .state) ≡ false) where
     reads : Reads g N (length (f .state)) (progress (g .ws) (f .state)) f
-    reads = record { swap = swap; paged = refl; sized = refl; done = refl }
+    reads = record { swap = swap; paged = refl; sized = refl; done = refl; settled = settled }
 
     -- a swap that is through: the next boot will revert
     swap-through : progress (g .ws) (f .state) < 2 * N → Past (g .ws) (f .state) (applyAll (bootOps g f) f .state) (2 * N)
@@ -150,7 +168,7 @@ module _ (g : Geometry) (f : Flash) (a : Admits g f) where
 
     -- a revert that is through: the state area reads Revert
     revert-through : 2 * N ≤ progress (g .ws) (f .state) → readState (g .ws) (applyAll (bootOps g f) f .state) ≡ Revert
-    unfolding closed bootWords words
+    unfolding closed
     revert-through h =
         let copies : List Op = copiesOps g (revertFrom N 0 (2 * N)) f in
         let n : ℕ = length (f .state) in
@@ -158,19 +176,11 @@ module _ (g : Geometry) (f : Flash) (a : Admits g f) where
         let d : bootOps g f ≡ copies ++ closeOps g n =
         boot-reverts g N n (progress (g .ws) (f .state)) f reads h
         ∙ ap (λ (os : List Op). copies ++ os) (finish-close g f n refl) in
-        let fit : g .ws ≤ n =
-        omega (
-          arith,
-          enough,
-          mul-le-mul-right {m = 3} {n = n / g .ws} (g .ws) (omega (arith, enough)),
-          div-mul-le-self n
-              (g .ws),
-        ) in
         ap (λ (os : List Op). readState (g .ws) (applyAll os f .state)) d
         ∙ ap (λ (y : Flash). readState (g .ws) (y .state))
         (apply-append copies (closeOps g n) f ∙ finished (x .active) (x .dfu) g n (x .state)
-        (even-times n (g .es) (ad .state-units)) (all-lengths copies f .state) fit)
-        ∙ area-reads (g .ws) n some-word
+        whole-units (all-lengths copies f .state) some-area)
+        ∙ area-reads Revert (g .ws) n (revert-reads (g .ws) some-word)
 
   -- ---- runs that are not cut
 
@@ -203,48 +213,55 @@ module _ (g : Geometry) (f : Flash) (a : Admits g f) where
       go Revert e = inr refl
       go DfuDetach e = inr refl
 
--- a state area that reads Revert wants nothing
-revert-idle : (g : Geometry) (f : Flash) → readState (g .ws) (f .state) ≡ Revert → bootOps g f ≡ []
-unfolding bootOps bootOpsIn
-revert-idle g f e = ap (λ (s : State). bootOpsIn s g f) e
-
 -- once quiet, quiet after one more run
 still : (g : Geometry) (f : Flash) (k : ℕ) → Quiet g f → Quiet g (ran g k f)
 still g f k q = subst (Quiet g) (sym (q .flash k)) q
 
--- where a revert is due, one run is enough
-settles-once : (g : Geometry) (f : Flash) → Admits g f → readState (g .ws) (f .state) ≡ Swap
-    → 2 * pageCount g f ≤ progress (g .ws) (f .state) → (k : ℕ) → (Cut g k f → ⊥) → Quiet g (ran g k f)
-settles-once g f a swap h k w =
-    quiet g (ran g k f) (admits-ran g k f a)
-    (revert-idle g (ran g k f)
-    (ap (λ (x : Flash). readState (g .ws) (x .state)) (ran-all g f a k w) ∙ revert-through g f a swap h))
+-- where a confirmation was cut, or a revert is due, one run is enough
+module _ (g : Geometry) (f : Flash) (a : Admits g f) (swap : readState (g .ws) (f .state) ≡ Swap) (k : ℕ) (w : Cut g k f → ⊥) where
+  through-reads : readState (g .ws) (ran g k f .state) ≡ readState (g .ws) (applyAll (bootOps g f) f .state)
+  through-reads = ap (λ (x : Flash). readState (g .ws) (x .state)) (ran-all g f a k w)
+
+  settles-confirmed : confirming (g .ws) (pageCount g f) (f .state) ≡ true → Quiet g (ran g k f)
+  settles-confirmed c =
+      quiet g (ran g k f) (admits-ran g k f a) (boot-idle g (ran g k f) (through-reads ∙ confirm-through g f a swap c))
+
+  settles-once : 2 * pageCount g f ≤ progress (g .ws) (f .state) → Quiet g (ran g k f)
+  settles-once h = go (confirming (g .ws) (pageCount g f) (f .state)) refl
+    where
+      go : (b : Bool) → confirming (g .ws) (pageCount g f) (f .state) ≡ b → Quiet g (ran g k f)
+      go true c = settles-confirmed c
+      go false c =
+          quiet g (ran g k f) (admits-ran g k f a)
+          (revert-idle g (ran g k f) (through-reads ∙ revert-through g f a swap c h))
 
 -- and where a swap is due, two are
 settles-twice : (g : Geometry) (f : Flash) → Admits g f → readState (g .ws) (f .state) ≡ Swap
+    → confirming (g .ws) (pageCount g f) (f .state) ≡ false
     → progress (g .ws) (f .state) < 2 * pageCount g f → (j k : ℕ) → (Cut g j f → ⊥) → (Cut g k (ran g j f) → ⊥)
     → Quiet g (ran g k (ran g j f))
 unfolding pageCount
-settles-twice g f a swap h j k w v =
+settles-twice g f a swap c h j k w v =
     let x : Flash = ran g j f in
     let e : x ≡ applyAll (bootOps g f) f = ran-all g f a j w in
-    let p = swap-through g f a swap h in
+    let p = swap-through g f a swap c h in
     let n : pageCount g x ≡ pageCount g f =
     ap (λ (y : Flash). pageCount g y) e ∙ ap (pages g) (all-lengths (bootOps g f) f .active) in
     let q : progress (g .ws) (x .state) ≡ progress (g .ws) (applyAll (bootOps g f) f .state) =
     ap (λ (y : Flash). progress (g .ws) (y .state)) e in
-    settles-once g x (admits-ran g j f a) (ap (λ (y : Flash). readState (g .ws) (y .state)) e ∙ p .same ∙ swap)
-    (omega (arith, n, q, p .past)) k v
+    settles-once g x (admits-ran g j f a) (ap (λ (y : Flash). readState (g .ws) (y .state)) e ∙ p .same ∙ swap) k v
+    (omega (arith, n, q, p .past))
 
 pub settles : (g : Geometry) (f : Flash) → Settles g f
 unfolding runs prepareBoot
 settles g f a j k w v = go (swap-or-idle g f a)
   where
-    due : readState (g .ws) (f .state) ≡ Swap → Dec (2 * pageCount g f ≤ progress (g .ws) (f .state))
-        → Quiet g (ran g k (ran g j f))
-    due e (yes h) = still g (ran g j f) k (settles-once g f a e h j w)
-    due e (no h) = settles-twice g f a e (lt-of-not-le h) j k w v
+    due : readState (g .ws) (f .state) ≡ Swap → (b : Bool) → confirming (g .ws) (pageCount g f) (f .state) ≡ b
+        → Dec (2 * pageCount g f ≤ progress (g .ws) (f .state)) → Quiet g (ran g k (ran g j f))
+    due e b c (yes h) = still g (ran g j f) k (settles-once g f a e j w h)
+    due e true c (no h) = still g (ran g j f) k (settles-confirmed g f a e j w c)
+    due e false c (no h) = settles-twice g f a e c (lt-of-not-le h) j k w v
 
     go : (readState (g .ws) (f .state) ≡ Swap) ⊎ (bootOps g f ≡ []) → Quiet g (ran g k (ran g j f))
-    go (inl e) = due e (decLe (2 * pageCount g f) (progress (g .ws) (f .state)))
+    go (inl e) = due e (confirming (g .ws) (pageCount g f) (f .state)) refl (decLe (2 * pageCount g f) (progress (g .ws) (f .state)))
     go (inr e) = still g (ran g j f) k (still g f j (quiet g f a e))

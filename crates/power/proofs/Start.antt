@@ -1,5 +1,5 @@
 -- The tables at the start and at the end of a swap and of a revert are those that the statement names, and what the proofs take
--- from an admitted geometry. Cited by Proved and ByPages. Assumes nothing.
+-- from an admitted geometry. Cited by Proved, ByPages and Confirmed. Assumes nothing.
 use mathlib.Core.Path.{_≡_, sym, ap, ap₂, _∙_}
 use mathlib.Core.List.{List, _++_, append-assoc, append-nil}
 use Prim.Native.Nat.{ℕ, zero, suc, _+_, _-_, _*_, _/_, _≤_, _<_, zero-le, suc-le-suc}
@@ -19,6 +19,7 @@ use Rattle.rules.specs.StateArea.{progress}
 use Rattle.rules.specs.Steps.{unitOf, pageCount}
 use Rattle.rules.specs.Power.{magicArea, swapMarks, revertMarks, pageAt, withPage, stepCost, stepTo, nextCost}
 use Rattle.power.specs.Power.{Bytes, EnoughWords}
+use Rattle.power.specs.Confirm.{voidMarks}
 use Rattle.power.proofs.Bytes.{bytes-take, bytes-drop, bytes-append}
 use Rattle.power.proofs.Pages.{mix, pages-le, page-take, page-append-left, page-append-right}
 use Rattle.power.proofs.Words.{spread, marks, length-spread, length-marks, spread-append, spread-replicate}
@@ -136,22 +137,27 @@ swapped-marks w N t h =
     ∙ ap₂ (λ (l r : List ℕ). l ++ r) (spread-replicate w (2 * N) marked)
     (spread-replicate w u erased ∙ ap (λ (n : ℕ). replicate n erased) e))
 
-pub reverted-marks : (w N t : ℕ) → 4 * N ≤ t → spread w (marks marked (4 * N) (t - 4 * N)) ≡ revertMarks w N ((2 + t) * w)
-unfolding revertMarks spread marks
-reverted-marks w N t h =
-    let u : ℕ = t - 4 * N in
-    let a : t ≡ 4 * N + u = omega arith in
-    let b : t * w ≡ (4 * N + u) * w = ap (λ (z : ℕ). z * w) a in
-    let e : u * w ≡ (2 + t) * w - (2 + 4 * N) * w = omega (arith, b) in
-    let m : w + 4 * N * w ≡ (1 + 4 * N) * w = omega arith in
+-- n marks done, and invalid
+pub void-marks : (w n t : ℕ) → n ≤ t → spread w (marks marked n (t - n)) ≡ voidMarks w n ((2 + t) * w)
+unfolding voidMarks spread marks
+void-marks w n t h =
+    let u : ℕ = t - n in
+    let a : t ≡ n + u = omega arith in
+    let b : t * w ≡ (n + u) * w = ap (λ (z : ℕ). z * w) a in
+    let e : u * w ≡ (2 + t) * w - (2 + n) * w = omega (arith, b) in
+    let m : w + n * w ≡ (1 + n) * w = omega arith in
     ap (λ (r : List ℕ). replicate w (magic Swap) ++ (replicate w marked ++ r))
-    (spread-append w (replicate (4 * N) marked) (replicate u erased)
-    ∙ ap₂ (λ (l r : List ℕ). l ++ r) (spread-replicate w (4 * N) marked)
-    (spread-replicate w u erased ∙ ap (λ (n : ℕ). replicate n erased) e))
+    (spread-append w (replicate n marked) (replicate u erased)
+    ∙ ap₂ (λ (l r : List ℕ). l ++ r) (spread-replicate w n marked)
+    (spread-replicate w u erased ∙ ap (λ (i : ℕ). replicate i erased) e))
     ∙ ap (λ (r : List ℕ). replicate w (magic Swap) ++ r)
-    (sym (append-assoc (replicate w marked) (replicate (4 * N * w) marked) (replicate ((2 + t) * w - (2 + 4 * N) * w) erased))
-    ∙ ap (λ (r : List ℕ). r ++ replicate ((2 + t) * w - (2 + 4 * N) * w) erased)
-    (replicate-append-replicate w (4 * N * w) marked ∙ ap (λ (n : ℕ). replicate n marked) m))
+    (sym (append-assoc (replicate w marked) (replicate (n * w) marked) (replicate ((2 + t) * w - (2 + n) * w) erased))
+    ∙ ap (λ (r : List ℕ). r ++ replicate ((2 + t) * w - (2 + n) * w) erased)
+    (replicate-append-replicate w (n * w) marked ∙ ap (λ (i : ℕ). replicate i marked) m))
+
+pub reverted-marks : (w N t : ℕ) → 4 * N ≤ t → spread w (marks marked (4 * N) (t - 4 * N)) ≡ revertMarks w N ((2 + t) * w)
+unfolding revertMarks voidMarks
+reverted-marks w N t h = void-marks w (4 * N) t h
 
 pub reverted-size : (w N t : ℕ) → 4 * N ≤ t → length (revertMarks w N ((2 + t) * w)) ≡ (2 + t) * w
 reverted-size w N t h =

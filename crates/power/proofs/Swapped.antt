@@ -1,21 +1,22 @@
--- The swap, cut anywhere: what a boot wants while steps of the swap are left, and the one-run lemmas that Runs asks for. Cited by
--- Proved; which operations a boot wants, by Reverted and Settled. Assumes nothing.
+-- Which operations a boot wants, and the swap, cut anywhere: the one-run lemmas that Runs asks for. Cited by Proved; the first
+-- section by Reverted, Settled and Confirmed. Assumes nothing.
 use mathlib.Core.Path.{_≡_, sym, ap, _∙_, subst}
-use mathlib.Core.Bool.{Bool}
-use mathlib.Core.List.{List, _++_}
+use mathlib.Core.Bool.{Bool, true}
+use mathlib.Core.List.{List, [], _++_}
 use Prim.Native.Nat.{ℕ, _+_, _*_, _≤_, _<_}
 use native.Mathlib.Nat.{not-le-of-lt}
 use native.Mathlib.Omega.{arith}
 use lib.ListN.{length, take}
 use borrow.Author.Tests.{lt-ltb, le-ltb}
 use Rattle.state.specs.declared.State.{State}
-use Rattle.state.specs.declared.State.the-variants.{Swap}
+use Rattle.state.specs.declared.State.the-variants.{Boot, Swap, Revert}
 use Rattle.state.specs.Choice.{pick}
+use Rattle.state.specs.Magic.{magic}
 use Rattle.geometry.specs.declared.Geometry.{Geometry}
 use Rattle.mem_flash.specs.Flash.{Flash, Op, applyAll, after}
 use Rattle.rules.specs.StateArea.{readState, progress}
 use Rattle.rules.specs.Steps.{swapFrom, revertFrom, swapSteps, revertSteps, copiesOps, pageCount, swapOps, revertOps}
-use Rattle.rules.specs.Boot.{finishOps, bootOpsIn, bootOps}
+use Rattle.rules.specs.Boot.{renewOps, finishOps, swapOrRevertOps, confirming, bootOpsIn, bootOps}
 use Rattle.rules.specs.Power.{nextCost}
 use Rattle.power.proofs.Areas.{after-all}
 use Rattle.power.proofs.Steps.{Whole}
@@ -25,13 +26,34 @@ use Rattle.power.proofs.Runs.{Kept}
 
 -- ---- which operations a boot wants
 
+module _ (g : Geometry) (f : Flash) where
+  -- none in the states Boot and Revert
+  pub boot-idle : readState (g .ws) (f .state) ≡ Boot → bootOps g f ≡ []
+  unfolding bootOps bootOpsIn
+  boot-idle e = ap (λ (s : State). bootOpsIn s g f) e
+
+  pub revert-idle : readState (g .ws) (f .state) ≡ Revert → bootOps g f ≡ []
+  unfolding bootOps bootOpsIn
+  revert-idle e = ap (λ (s : State). bootOpsIn s g f) e
+
+  -- the erase and the Boot magic after a confirmation that was cut
+  pub boot-confirms : readState (g .ws) (f .state) ≡ Swap → confirming (g .ws) (pageCount g f) (f .state) ≡ true
+      → bootOps g f ≡ renewOps (g .es) (g .ws) (length (f .state)) (magic Boot)
+  unfolding bootOps bootOpsIn pick
+  boot-confirms e c =
+      ap (λ (s : State). bootOpsIn s g f) e
+      ∙ ap (λ (b : Bool). pick b (renewOps (g .es) (g .ws) (length (f .state)) (magic Boot)) (swapOrRevertOps g f)) c
+
 module _ (g : Geometry) (N S n : ℕ) (f : Flash) (r : Reads g N S n f) where
-  boot-in : bootOps g f ≡ bootOpsIn Swap g f
-  unfolding bootOps
-  boot-in = ap (λ (s : State). bootOpsIn s g f) (r .swap)
+  boot-in : bootOps g f ≡ swapOrRevertOps g f
+  unfolding bootOps bootOpsIn pick
+  boot-in =
+      ap (λ (s : State). bootOpsIn s g f) (r .swap)
+      ∙ ap (λ (b : Bool). pick b (renewOps (g .es) (g .ws) (length (f .state)) (magic Boot)) (swapOrRevertOps g f))
+      (ap (λ (n : ℕ). confirming (g .ws) n (f .state)) (r .paged) ∙ r .settled)
 
   pub boot-swaps : n < 2 * N → bootOps g f ≡ copiesOps g (swapFrom N 0) f
-  unfolding bootOpsIn pick swapOps swapSteps
+  unfolding swapOrRevertOps pick swapOps swapSteps
   boot-swaps h =
       boot-in
       ∙ ap (λ (b : Bool). pick b (swapOps g f) (revertOps g f ++ finishOps g f))
@@ -39,7 +61,7 @@ module _ (g : Geometry) (N S n : ℕ) (f : Flash) (r : Reads g N S n f) where
       ∙ ap (λ (m : ℕ). copiesOps g (swapFrom m 0) f) (r .paged)
 
   pub boot-reverts : 2 * N ≤ n → bootOps g f ≡ copiesOps g (revertFrom N 0 (2 * N)) f ++ finishOps g f
-  unfolding bootOpsIn pick revertOps revertSteps
+  unfolding swapOrRevertOps pick revertOps revertSteps
   boot-reverts h =
       boot-in
       ∙ ap (λ (b : Bool). pick b (swapOps g f) (revertOps g f ++ finishOps g f))

@@ -18,7 +18,7 @@ use Rattle.power.specs.Power.{Bytes}
 use Rattle.power.specs.Inside.{areaOf}
 use Rattle.power.proofs.Bytes.{bytes-take, bytes-drop, bytes-append}
 use Rattle.power.proofs.Pages.{mix, pages-le, length-mix, page-mix-left, page-mix-right, mix-up, mix-down}
-use Rattle.power.proofs.Words.{spread, marks, length-spread, length-marks, reads-swap, progress-marks, mark-next}
+use Rattle.power.proofs.Words.{spread, marks, length-spread, length-marks, reads-swap, counted, progress-marks, confirming-counted, mark-next}
 use Rattle.power.proofs.Areas.{Image, flash-path}
 use Rattle.power.proofs.Steps.{stepped, even-dfu, odd-active}
 use Rattle.power.proofs.Way.{Reads, Leg, Way}
@@ -122,6 +122,7 @@ module _ (g : Geometry) (N t : ℕ) (A D A′ D′ : List ℕ) (ws : 0 < g .ws) 
         paged = ap (λ (l : ℕ). l / P) (active-length c hc) ∙ mul-div-cancel N (im .some);
         sized = length-spread (g .ws) (marks erased n (t - n)) ∙ ap (λ (l : ℕ). l * g .ws) all;
         done = progress-marks (g .ws) ws n (t - n) (omega arith);
+        settled = confirming-counted (g .ws) N _ (counted (g .ws) ws n (t - n) (omega arith));
       }
 
   -- a step to DFU: page k from active page s, with c pages of active and d of DFU old, moves d to d′

@@ -1,6 +1,7 @@
 -- A list of steps, cut anywhere: one lemma, `run-on`, serves the swap and the revert. It says where a run that is cut leaves the
 -- flash, where one that is not cut does, and how many steps were gained. Cited by Swapped, Reverted and Settled. Assumes nothing.
 use mathlib.Core.Path.{_≡_, refl, sym, ap, _∙_, subst}
+use mathlib.Core.Bool.{false}
 use mathlib.Core.List.{List, [], _∷_, _++_}
 use Prim.Native.Nat.{ℕ, suc, _+_, _-_, _/_, _≤_, _<_, zero-le}
 use native.Mathlib.Nat.{lt-of-not-le}
@@ -15,18 +16,20 @@ use Rattle.geometry.specs.Geometry.{page, pages}
 use Rattle.mem_flash.specs.Flash.{Flash, Op, applyAll}
 use Rattle.rules.specs.StateArea.{readState, progress}
 use Rattle.rules.specs.Steps.{Copy, copyOps, onceOps, copiesOps, pageCount}
+use Rattle.rules.specs.Boot.{confirming}
 use Rattle.rules.specs.Power.{stepTo, nextCost}
 use Rattle.power.proofs.Areas.{apply-append, cut-first, cut-past, Image, state-placed, active-placed}
 use Rattle.power.proofs.Steps.{Whole, Fits, Near, near-refl, stepped, next-count, step-whole, step-cut}
 
 -- ---- the way
 
--- all that a boot reads at f: the state Swap, N pages, S bytes of state, and m steps done
+-- all that a boot reads at f: the state Swap, N pages, S bytes of state, m steps done, and no confirmation that was cut
 pub record Reads (g : Geometry) (N S m : ℕ) (f : Flash) : Type 0 where
   pub swap : readState (g .ws) (f .state) ≡ Swap
   pub paged : pageCount g f ≡ N
   pub sized : length (f .state) ≡ S
   pub done : progress (g .ws) (f .state) ≡ m
+  pub settled : confirming (g .ws) N (f .state) ≡ false
 
 -- the step c, number m, leads from f to next
 pub record Leg (g : Geometry) (N S m : ℕ) (c : Copy) (f next : Flash) : Type 0 where
@@ -63,6 +66,7 @@ near-reads g N S m c f now i near r =
       paged = ap (λ (n : ℕ). n / page g) ln ∙ r .paged;
       sized = ap (λ (s : List ℕ). length s) st ∙ r .sized;
       done = ap (progress (g .ws)) st ∙ r .done;
+      settled = ap (confirming (g .ws) N) st ∙ r .settled;
     }
 
 close-reads : (g : Geometry) (N S m : ℕ) (f : Flash) (cs : List Copy) (h now : Flash) → Way g N S m f cs h → Close g cs f now

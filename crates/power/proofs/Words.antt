@@ -1,24 +1,29 @@
--- The state area as one byte for each word: how words are read and written, and the progress while n marks are done. Cited by
--- Tables, Start, Reverted and Marks. Of the bytes they use that a mark stays as it is written and is not erased. Assumes nothing.
+-- The state area as one byte for each word: how words are read and written, the progress while n marks are done, and whether a
+-- confirmation is pending. Cited by Tables, Start, Reverted, Marks, Settled and Confirmed. Of the bytes they use that a mark stays
+-- as it is written and is not erased. Assumes nothing.
 use mathlib.Core.Path.{_≡_, refl, sym, ap, ap₂, _∙_}
-use mathlib.Core.Bool.{true, false}
+use mathlib.Core.Bool.{Bool, true, false}
 use mathlib.Core.Logic.{_≢_, _⊎_, inl, inr}
 use mathlib.Core.List.{List, [], _∷_, _++_, append-assoc}
 use Prim.Native.Nat.{ℕ, zero, suc, _+_, _-_, _*_, _/_, _≤_, _<_}
 use native.Mathlib.Nat.{zero-mul, mul-div-cancel, not-suc-le-zero, le-of-suc-le-suc, eq-or-lt-of-le}
 use native.Mathlib.Omega.{arith}
+use lib.Dec.{ltb}
 use lib.ListN.{length, take, drop, replicate, getD, set, length-append, length-replicate, getD-replicate, replicate-append-replicate, List·getD-append}
 use lib.Seq.{take-at, drop-append-add, take-append-add, getD-append-add, set-at}
-use borrow.Author.Tests.{eq-eqb, ne-eqb}
+use borrow.Author.Tests.{eq-eqb, ne-eqb, lt-ltb, le-ltb}
 use Rattle.state.specs.declared.State.{State}
 use Rattle.state.specs.declared.State.the-variants.{Boot, Swap, Revert, DfuDetach}
 use Rattle.state.specs.Choice.{pick}
 use Rattle.state.specs.Magic.{erased, marked, magic, throughout, holds, stateOf}
 use Rattle.geometry.specs.Geometry.{words}
-use Rattle.mem_flash.specs.Flash.{programmed, program, writtenAt}
+use Rattle.mem_flash.specs.Flash.{programmed, blank, program, writtenAt}
 use Rattle.mem_flash.proofs.Bytes.{programmed-marked, marked-not-erased}
-use Rattle.rules.specs.StateArea.{word, readState, valid, markOpen, mostMarks, firstOpen, progress}
-use Rattle.power.proofs.Bytes.{program-none}
+use Rattle.rules.specs.StateArea.{word, readState, valid, markOpen, mostMarks, firstOpen, marksDone, progress}
+use Rattle.rules.specs.Boot.{confirming}
+use Rattle.rules.specs.Power.{magicArea}
+use Rattle.rules.proofs.StateWords.{progress-valid, progress-invalid}
+use Rattle.power.proofs.Bytes.{program-none, blank-is}
 
 -- ---- a byte for each word
 
@@ -122,7 +127,7 @@ erased-reads-boot w h =
     no-magic : (s : State) → throughout (magic s) (replicate w erased) ≡ false
     no-magic s = throughout-other w (magic s) erased h (erased-no-magic s)
 
--- and a word of the Revert magic reads Revert
+-- and a word of the Revert magic reads Revert, one of the Boot magic Boot
 revert-no-swap : magic Revert ≢ magic Swap
 unfolding magic
 revert-no-swap e = omega arith
@@ -130,6 +135,41 @@ revert-no-swap e = omega arith
 pub revert-reads : (w : ℕ) → 0 < w → stateOf (replicate w (magic Revert)) ≡ Revert
 unfolding stateOf pick
 revert-reads w h = rw (throughout-other w (magic Swap) (magic Revert) h revert-no-swap, throughout-same w (magic Revert))
+
+boot-no-other : (magic Boot ≢ magic Swap) × (magic Boot ≢ magic Revert) × (magic Boot ≢ magic DfuDetach)
+unfolding magic
+boot-no-other = (λ e. omega arith, λ e. omega arith, λ e. omega arith)
+
+pub boot-reads : (w : ℕ) → 0 < w → stateOf (replicate w (magic Boot)) ≡ Boot
+unfolding stateOf pick
+boot-reads w h =
+    rw (
+      throughout-other w (magic Swap) (magic Boot) h (boot-no-other .0),
+      throughout-other w (magic Revert) (magic Boot) h (boot-no-other .1),
+      throughout-other w (magic DfuDetach) (magic Boot) h (boot-no-other .2),
+    )
+
+-- so does a state area that begins with such a word
+pub area-reads : (s : State) (w n : ℕ) → stateOf (replicate w (magic s)) ≡ s → readState w (magicArea w s n) ≡ s
+unfolding readState word magicArea
+area-reads s w n e =
+    ap (λ (i : ℕ). stateOf (take w (drop i (replicate w (magic s) ++ replicate (n - w) erased)))) (zero-mul w)
+    ∙ ap stateOf (take-at (replicate w (magic s)) (replicate (n - w) erased) w (length-replicate w (magic s))) ∙ e
+
+-- a state area whose first word is erased reads Boot
+pub blank-boot : (w n : ℕ) (st : List ℕ) → 0 < w → w ≤ n → n ≤ length st → readState w (blank n st) ≡ Boot
+unfolding readState word
+blank-boot w n st some more fit =
+    let r : ℕ = n - w in
+    let e : n ≡ w + r = omega arith in
+    ap stateOf
+    (ap₂ (λ (i : ℕ) (xs : List ℕ). take w (drop i xs)) (zero-mul w)
+    (blank-is n st fit
+    ∙ ap (λ (l : List ℕ). l ++ drop n st)
+    (ap (λ (z : ℕ). replicate z erased) e ∙ sym (replicate-append-replicate w r erased))
+    ∙ append-assoc (replicate w erased) (replicate r erased) (drop n st))
+    ∙ take-at (replicate w erased) (replicate r erased ++ drop n st) w (length-replicate w erased))
+    ∙ erased-reads-boot w some
 
 -- every magic is a byte
 pub magic-byte : (s : State) → magic s < 256
@@ -199,21 +239,57 @@ module _ (w : ℕ) (some : 0 < w) (v n r : ℕ) (more : 0 < r) where
   unfolding readState stateOf pick marks
   reads-swap = rw (word-spread w 0 (marks v n r) (omega (arith, length-marks v n r)), throughout-same w (magic Swap))
 
+  -- the Boot magic is not there yet
+  pub not-booted : throughout (magic Boot) (word w 0 (spread w (marks v n r))) ≡ false
+  unfolding marks
+  not-booted =
+      ap (throughout (magic Boot)) (word-spread w 0 (marks v n r) (omega (arith, length-marks v n r)))
+      ∙ throughout-other w (magic Boot) (magic Swap) some (λ e. boot-no-other .0 (sym e))
+
   reads-valid : word w 1 (spread w (marks v n r)) ≡ replicate w v
   unfolding marks
   reads-valid = word-spread w 1 (marks v n r) (omega (arith, length-marks v n r))
 
-pub progress-marks : (w : ℕ) → 0 < w → (n r : ℕ) → 0 < r → progress w (spread w (marks erased n r)) ≡ n
-unfolding progress valid pick
-progress-marks w some n r more =
-    rw (reads-valid w some erased n r more, throughout-same w erased, most-marks w some erased n r more)
-    (first-open w some erased n r more (2 + (n + r) - 3) 0 (omega arith) (omega arith) (omega arith))
+  pub done-marks : marksDone w (spread w (marks v n r)) ≡ n
+  unfolding marksDone
+  done-marks = rw most-marks (first-open (2 + (n + r) - 3) 0 (omega arith) (omega arith) (omega arith))
 
-pub progress-void : (w : ℕ) → 0 < w → (n r : ℕ) → 0 < r → progress w (spread w (marks marked n r)) ≡ 2 + (n + r) - 3
-unfolding progress valid pick
-progress-void w some n r more =
-    let void : throughout erased (replicate w marked) ≡ false = throughout-other w erased marked some marked-not-erased in
-    rw (reads-valid w some marked n r more, void, most-marks w some marked n r more)
+module _ (w : ℕ) (some : 0 < w) (n r : ℕ) (more : 0 < r) where
+  -- the validity word erased, and written over
+  pub counted : valid w (spread w (marks erased n r)) ≡ true
+  unfolding valid
+  counted = ap (throughout erased) (reads-valid w some erased n r more) ∙ throughout-same w erased
+
+  pub void : valid w (spread w (marks marked n r)) ≡ false
+  unfolding valid
+  void =
+      ap (throughout erased) (reads-valid w some marked n r more)
+      ∙ throughout-other w erased marked some marked-not-erased
+
+  pub progress-marks : progress w (spread w (marks erased n r)) ≡ n
+  progress-marks = progress-valid w (spread w (marks erased n r)) counted ∙ done-marks w some erased n r more
+
+  pub progress-void : progress w (spread w (marks marked n r)) ≡ 2 + (n + r) - 3
+  progress-void = progress-invalid w (spread w (marks marked n r)) void ∙ most-marks w some marked n r more
+
+-- a confirmation is pending with a swap's marks and a revert's not all done, and void; not while they count, nor with all done
+module _ (w N : ℕ) (st : List ℕ) where
+  pub confirming-counted : valid w st ≡ true → confirming w N st ≡ false
+  unfolding confirming pick
+  confirming-counted e = rw e
+
+  pub confirming-reverted : 4 * N ≤ marksDone w st → confirming w N st ≡ false
+  unfolding confirming pick
+  confirming-reverted h = rw (le-ltb (marksDone w st) (4 * N) h) (go (valid w st) (ltb (marksDone w st) (2 * N)))
+    where
+      go : (a b : Bool) → pick a false (pick b false false) ≡ false
+      go true b = refl
+      go false true = refl
+      go false false = refl
+
+  pub confirming-swapped : valid w st ≡ false → 2 * N ≤ marksDone w st → marksDone w st < 4 * N → confirming w N st ≡ true
+  unfolding confirming pick
+  confirming-swapped e h l = rw (e, le-ltb (marksDone w st) (2 * N) h, lt-ltb (marksDone w st) (4 * N) l)
 
 replicate-snoc : (n x : ℕ) (zs : List ℕ) → replicate n x ++ (x ∷ zs) ≡ x ∷ (replicate n x ++ zs)
 replicate-snoc zero x zs = refl

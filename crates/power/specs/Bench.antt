@@ -1,6 +1,6 @@
 -- The statement of specs/Power is not empty: the bench sheet's start meets its premises, and the tables there are the sheet's
 -- cases a and f; case l is a flash without pages. The sheet has one erase unit to a page, so a start with several is here besides,
--- with a cut inside the state's erase. Proved in proofs/Bench. Assumes nothing.
+-- with a cut inside the state's erase. Case j is a start for the statement of specs/Confirm. Proved in proofs/Bench. Assumes nothing.
 use mathlib.Core.Path.{_≡_}
 use mathlib.Core.List.{List, [], _∷_, _++_, map}
 use Rattle.state.specs.declared.State.the-variants.{Boot, Swap}
@@ -8,10 +8,12 @@ use Rattle.geometry.specs.declared.Geometry.{Geometry}
 use Rattle.mem_flash.specs.Flash.{active, dfu, Flash}
 use Rattle.mem_flash.specs.Run.{flash}
 use Rattle.rules.specs.Steps.{pageCount}
-use Rattle.rules.specs.Calls.{Report}
+use Rattle.rules.specs.Calls.{Report, Call, left}
+use Rattle.rules.specs.FirmwareState.{mark}
 use Rattle.rules.specs.Power.{swapTable, reverted, revertedPart, revertedErased, stateUnits, stepCost}
-use Rattle.rules.specs.Sheet.{Run, Case, boot, done, cut, sizes, fresh, pages, zeros, ff, computed, told}
+use Rattle.rules.specs.Sheet.{Run, Case, boot, markBooted, done, cut, sizes, fresh, pages, zeros, ff, computed, told}
 use Rattle.power.specs.Power.{Marked, Ready, Power, NoPages}
+use Rattle.power.specs.Confirm.{Swapped, CutConfirmation, Confirms, confirmedPart, confirmedWhole}
 
 -- the flash of case l
 unfoldable pub noPages : Flash
@@ -46,6 +48,10 @@ finely =
     -- cut inside the state's erase, and the next boot
     ∷ fineCase (boot 27 ∷ boot 29 ∷ []) (cut 29) (revertedPart fine 1 (fresh 15))
     ∷ fineCase (boot 27 ∷ boot 29 ∷ boot 0 ∷ []) (done Boot 0) (revertedPart fine 1 (fresh 15))
+    -- a confirmation that is cut before the state's erase, then a boot that is cut inside it, or is not; and one that is cut inside it
+    ∷ fineCase (boot 27 ∷ markBooted 1 ∷ boot 5 ∷ []) (done Swap 5) (confirmedWhole fine (swapTable fine (fresh 15)))
+    ∷ fineCase (boot 27 ∷ markBooted 1 ∷ boot 0 ∷ boot 1 ∷ []) (cut 1) (confirmedPart fine 1 (swapTable fine (fresh 15)))
+    ∷ fineCase (boot 27 ∷ markBooted 2 ∷ boot 0 ∷ []) (done Boot 0) (confirmedPart fine 1 (swapTable fine (fresh 15)))
     ∷ []
 
 pub record InUnits : Type 0 where
@@ -56,4 +62,18 @@ pub record InUnits : Type 0 where
   pub cases : map computed finely ≡ map told finely
   pub part : revertedPart fine 1 (fresh 15)
       ≡ flash (pages (1 ∷ 2 ∷ 3 ∷ [])) (pages (4 ∷ 5 ∷ 6 ∷ 3 ∷ [])) (ff 4 ++ (zeros 10 ++ ff 2))
+  pub confirmed : confirmedPart fine 1 (swapTable fine (fresh 15))
+      ≡ flash (pages (4 ∷ 5 ∷ 6 ∷ [])) (pages (4 ∷ 1 ∷ 2 ∷ 3 ∷ [])) (ff 4 ++ (zeros 4 ++ ff 8))
   pub power : Power fine (fresh 15)
+
+-- case j: on the flash of case a a mark_booted is cut right after its invalidation
+unfoldable pub confirmation : Call
+confirmation = mark Boot (sizes 16 .es) (sizes 16 .ws) (swapTable (sizes 16) (fresh 15) .state)
+
+pub record Unconfirmed : Type 0 where
+  pub swapped : Swapped (sizes 16) (swapTable (sizes 16) (fresh 15))
+  pub cut : CutConfirmation confirmation 1
+  -- so the promise holds there, and the Boot magic is what is left
+  pub confirms : Confirms (sizes 16) (swapTable (sizes 16) (fresh 15)) 0 (left confirmation 1 (swapTable (sizes 16) (fresh 15)))
+  pub booted : confirmedWhole (sizes 16) (swapTable (sizes 16) (fresh 15))
+      ≡ flash (pages (4 ∷ 5 ∷ 6 ∷ [])) (pages (4 ∷ 1 ∷ 2 ∷ 3 ∷ [])) (0xD0 ∷ ff 15)

@@ -1,20 +1,22 @@
--- Demand 3 carried to the code: the same promise, of the flashes and answers that prepare_boot's contract allows, run after run.
--- It says nothing of how the function finds them: a run is whatever meets `Did (prepareBoot ..)`, which is the contract of
--- `BootLoader::prepare_boot` word for word. Proved in proofs/Carried. Assumes nothing.
+-- Demand 3 and request No. 5 carried to the code: the same promises, of the flashes and answers that the contracts allow, run
+-- after run. They say nothing of how the functions find them: a run is whatever meets `Did (prepareBoot ..)`, which is the contract
+-- of `BootLoader::prepare_boot` word for word. Proved in proofs/Carried. Assumes nothing.
 use mathlib.Core.Path.{_≡_}
 use mathlib.Core.Option.{some}
 use mathlib.Core.List.{List, [], _∷_}
 use Prim.Native.Nat.{ℕ, _+_, _-_, _*_, _≤_, _<_}
 use lib.ListN.{length}
-use Rattle.state.specs.declared.State.the-variants.{Boot, Swap}
+use Rattle.state.specs.declared.State.the-variants.{Boot, Swap, Revert}
 use Rattle.geometry.specs.declared.Geometry.{Geometry}
 use Rattle.mem_flash.specs.Flash.{Flash}
 use Rattle.rules.specs.declared.Answer.{Answer}
+use Rattle.rules.specs.StateArea.{readState}
 use Rattle.rules.specs.Steps.{pageCount}
-use Rattle.rules.specs.Calls.{reported, Did}
+use Rattle.rules.specs.Calls.{Call, reported, Did}
 use Rattle.rules.specs.Boot.{prepareBoot}
 use Rattle.rules.specs.Power.{swapTable, reverted, revertedPart, stateUnits, dearerCost}
 use Rattle.power.specs.Power.{AllAtLeast, Short, InErase}
+use Rattle.power.specs.Confirm.{MarkBooted}
 
 -- the answer is a cut
 abbrev pub IsCut : Answer → Type 0
@@ -47,3 +49,27 @@ pub record CodePower (g : Geometry) (f : Flash) : Type 0 where
   pub swap-soon : {ks : List ℕ} {h : Flash} → AllAtLeast (dearerCost g) ks → CutRuns g ks f h → length ks < 2 * pageCount g f
   pub revert-soon : {ks : List ℕ} {h : Flash} → AllAtLeast (dearerCost g) ks → CutRuns g ks (swapTable g f) h
       → length ks < 2 * pageCount g f + 2
+
+-- ---- a confirmation that was cut
+
+-- runs of prepare_boot with these budgets, cut or not, lead from one flash to another
+pub data BootRuns (g : Geometry) : List ℕ → Flash → Flash → Type 0 where
+  no-run : {f : Flash} → BootRuns g [] f f
+  next-run : {k : ℕ} {ks : List ℕ} {f f₁ h : Flash} (r : Answer) → Did (prepareBoot g f) k f f₁ r → BootRuns g ks f₁ h
+      → BootRuns g (k ∷ ks) f h
+
+-- the call c, with a budget of k, is cut after its invalidation and leaves x; boots after it lead to h
+pub record CutThen (g : Geometry) (c : Call) (k : ℕ) (ks : List ℕ) (f x h : Flash) (r : Answer) : Type 0 where
+  pub run : Did c k f x r
+  pub cut : IsCut r
+  pub invalidated : 1 ≤ k
+  pub boots : BootRuns g ks x h
+
+-- of a finished swap f: no image is changed, and the Revert magic is never left
+pub record CodeConfirms (g : Geometry) (f : Flash) : Type 0 where
+  pub active : {c : Call} {k : ℕ} {ks : List ℕ} {x h : Flash} {r : Answer} → MarkBooted g f c → CutThen g c k ks f x h r
+      → h .active ≡ f .active
+  pub dfu : {c : Call} {k : ℕ} {ks : List ℕ} {x h : Flash} {r : Answer} → MarkBooted g f c → CutThen g c k ks f x h r
+      → h .dfu ≡ f .dfu
+  pub never : {c : Call} {k : ℕ} {ks : List ℕ} {x h : Flash} {r : Answer} → MarkBooted g f c → CutThen g c k ks f x h r
+      → readState (g .ws) (h .state) ≡ Revert → ⊥

@@ -7,3 +7,4 @@ pub mod Inside
 pub mod Settles
 pub mod Marking
 pub mod Carried
+pub mod Confirm

@@ -11,7 +11,7 @@ use lib.ListN.{length, take, drop}
 use borrow.Author.Tests.{eq-eqb}
 use Rattle.state.specs.Choice.{pick}
 use Rattle.state.specs.Magic.{erased, holds}
-use Rattle.rules.specs.StateArea.{word, valid, markOpen, mostMarks, firstOpen, progress}
+use Rattle.rules.specs.StateArea.{word, valid, markOpen, mostMarks, firstOpen, marksDone, progress}
 
 -- ---- a mark
 
@@ -43,7 +43,7 @@ pub progress-invalid : (ws : ℕ) (st : List ℕ) → valid ws st ≡ false → 
 unfolding progress pick
 progress-invalid ws st e = rw e
 
-pub progress-valid : (ws : ℕ) (st : List ℕ) → valid ws st ≡ true → progress ws st ≡ firstOpen ws st (mostMarks ws st) 0
+pub progress-valid : (ws : ℕ) (st : List ℕ) → valid ws st ≡ true → progress ws st ≡ marksDone ws st
 unfolding progress pick
 progress-valid ws st e = rw e
 

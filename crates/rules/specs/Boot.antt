@@ -1,4 +1,5 @@
 -- Document 01, "Steps": prepare_boot, and read_state. Assumes nothing.
+use mathlib.Core.Bool.{Bool, false}
 use mathlib.Core.Option.{some}
 use mathlib.Core.List.{List, [], _∷_, _++_}
 use Prim.Native.Nat.{ℕ, _*_}
@@ -11,7 +12,7 @@ use Rattle.state.specs.Magic.{magic}
 use Rattle.geometry.specs.declared.Geometry.{Geometry}
 use Rattle.geometry.specs.Refusals.{bootRefusal, stateRefusal}
 use Rattle.mem_flash.specs.Flash.{state, Flash, Op, eraseOps}
-use Rattle.rules.specs.StateArea.{readState, progress, invalidateOp, magicOp}
+use Rattle.rules.specs.StateArea.{readState, valid, marksDone, progress, invalidateOp, magicOp}
 use Rattle.rules.specs.Steps.{pageCount, swapOps, revertOps}
 use Rattle.rules.specs.Calls.{Call}
 
@@ -23,11 +24,24 @@ renewOps es ws n m = eraseOps es state 0 n ++ (magicOp ws m ∷ [])
 unfoldable pub finishOps : Geometry → Flash → List Op
 finishOps g f = invalidateOp (g .ws) ∷ renewOps (g .es) (g .ws) (length (f .state)) (magic Revert)
 
--- only state Swap acts: a progress below 2N swaps, any other reverts
+-- a progress below 2N swaps, any other reverts
+unfoldable pub swapOrRevertOps : Geometry → Flash → List Op
+swapOrRevertOps g f =
+    pick (ltb (progress (g .ws) (f .state)) (2 * pageCount g f)) (swapOps g f) (revertOps g f ++ finishOps g f)
+
+-- a confirmation was cut, with n pages: the progress does not count, and the marks are those of a finished swap and of a revert
+-- that is not finished (request No. 5 of 02)
+unfoldable pub confirming : ℕ → ℕ → List ℕ → Bool
+confirming ws n st =
+    pick (valid ws st) false (pick (ltb (marksDone ws st) (2 * n)) false (ltb (marksDone ws st) (4 * n)))
+
+-- only state Swap acts: it finishes a confirmation that was cut, or swaps, or reverts
 unfoldable pub bootOpsIn : State → Geometry → Flash → List Op
 bootOpsIn Boot g f = []
 bootOpsIn Swap g f =
-    pick (ltb (progress (g .ws) (f .state)) (2 * pageCount g f)) (swapOps g f) (revertOps g f ++ finishOps g f)
+    pick (confirming (g .ws) (pageCount g f) (f .state))
+    (renewOps (g .es) (g .ws) (length (f .state)) (magic Boot))
+    (swapOrRevertOps g f)
 bootOpsIn Revert g f = []
 bootOpsIn DfuDetach g f = []
 

@@ -103,8 +103,8 @@ table =
     ∷ case (boot 24 ∷ boot 25 ∷ boot 3 ∷ []) (done Swap 3) (1 ∷ 2 ∷ 3 ∷ []) (4 ∷ 5 ∷ 6 ∷ 3 ∷ []) (0xC0 ∷ ff 15)
     -- i
     ∷ case (boot 24 ∷ boot 26 ∷ boot 0 ∷ []) (done Boot 0) (1 ∷ 2 ∷ 3 ∷ []) (4 ∷ 5 ∷ 6 ∷ 3 ∷ []) (ff 16)
-    -- j
-    ∷ case (boot 24 ∷ markBooted 1 ∷ boot 3 ∷ []) (done Swap 3) (4 ∷ 5 ∷ 6 ∷ []) (4 ∷ 1 ∷ 2 ∷ 3 ∷ []) (0xC0 ∷ ff 15)
+    -- j: a confirmation that was cut is finished since request No. 5, in two operations, and labelled Boot
+    ∷ case (boot 24 ∷ markBooted 1 ∷ boot 3 ∷ []) (done Swap 2) (4 ∷ 5 ∷ 6 ∷ []) (4 ∷ 1 ∷ 2 ∷ 3 ∷ []) (0xD0 ∷ ff 15)
     -- k: 4N + 2 words are refused since request No. 3, and no boot changes a byte; what mark_booted wrote is its own
     ∷ record {
       geometry = sizes 14;
@@ -120,8 +120,16 @@ table =
       geometry = sizes 15;
       start = fresh 14;
       runs = boot 24 ∷ markBooted 1 ∷ boot 7 ∷ [];
+      answer = done Swap 2;
+      left = flash (pages (4 ∷ 5 ∷ 6 ∷ [])) (pages (4 ∷ 1 ∷ 2 ∷ 3 ∷ [])) (0xD0 ∷ ff 14);
+    }
+    -- h with as few words: all marks of a finished revert are read
+    ∷ record {
+      geometry = sizes 15;
+      start = fresh 14;
+      runs = boot 24 ∷ boot 25 ∷ boot 3 ∷ [];
       answer = done Swap 3;
-      left = flash (pages (4 ∷ 5 ∷ 6 ∷ [])) (pages (4 ∷ 1 ∷ 2 ∷ 3 ∷ [])) (0xC0 ∷ ff 14);
+      left = flash (pages (1 ∷ 2 ∷ 3 ∷ [])) (pages (4 ∷ 5 ∷ 6 ∷ 3 ∷ [])) (0xC0 ∷ ff 14);
     }
     -- l
     ∷ record {

@@ -34,9 +34,13 @@ unfoldable pub firstOpen : ℕ → List ℕ → ℕ → ℕ → ℕ
 firstOpen ws st zero i = i
 firstOpen ws st (suc n) i = pick (markOpen ws st i) i (firstOpen ws st n (suc i))
 
--- the progress: m where it does not count, else the first open mark below m, or m
+-- the leading done marks, whether they count or not: the first open mark below m, or m
+unfoldable pub marksDone : ℕ → List ℕ → ℕ
+marksDone ws st = firstOpen ws st (mostMarks ws st) 0
+
+-- the progress: m where it does not count, else the leading done marks
 unfoldable pub progress : ℕ → List ℕ → ℕ
-progress ws st = pick (valid ws st) (firstOpen ws st (mostMarks ws st) 0) (mostMarks ws st)
+progress ws st = pick (valid ws st) (marksDone ws st) (mostMarks ws st)
 
 -- the mark of step i is written over its whole word, and so is the invalidation
 unfoldable pub markOp : ℕ → ℕ → Op

@@ -252,7 +252,7 @@ fn case_i() -> u32 {
     )
 }
 
-// A swap, a confirmation that is cut after its invalidation, and a boot.
+// A swap, a confirmation that is cut after its invalidation, and a boot, which finishes it.
 fn case_j() -> u32 {
     let mut active = active_start();
     let mut dfu = dfu_start();
@@ -264,13 +264,13 @@ fn case_j() -> u32 {
     whole(
         b"j: boot 24, mark_booted 1, boot 3",
         answer,
-        show::found(1, 3),
+        show::found(1, 2),
         &active,
         &dfu,
         &state,
         b"\x04\x05\x06",
         b"\x04\x01\x02\x03",
-        b"\xC0\xFF\xFF\xFF\xFF\xFF\xFF\xFF\xFF\xFF\xFF\xFF\xFF\xFF\xFF\xFF",
+        b"\xD0\xFF\xFF\xFF\xFF\xFF\xFF\xFF\xFF\xFF\xFF\xFF\xFF\xFF\xFF\xFF",
     )
 }
 
@@ -344,13 +344,13 @@ fn told_k_more(answer: Answer, active: &Active, dfu: &Dfu, state: &[u8; 15]) -> 
     told(
         b"k with 15 state bytes",
         answer,
-        show::found(1, 3),
+        show::found(1, 2),
         active,
         dfu,
         state,
         b"\x04\x05\x06",
         b"\x04\x01\x02\x03",
-        b"\xC0\xFF\xFF\xFF\xFF\xFF\xFF\xFF\xFF\xFF\xFF\xFF\xFF\xFF\xFF",
+        b"\xD0\xFF\xFF\xFF\xFF\xFF\xFF\xFF\xFF\xFF\xFF\xFF\xFF\xFF\xFF",
     )
 }
 

@@ -8,10 +8,9 @@ use native.Mathlib.Decide.{decLt}
 use native.Mathlib.Omega.{arith}
 use lib.ListN.{length, getD, take, drop, length-take, length-drop}
 use lib.Seq.{getD-take, getD-drop}
-use Rattle.state.specs.Choice.{pick}
 use Rattle.state.specs.Magic.{erased}
 use Rattle.geometry.specs.Geometry.{words}
-use Rattle.rules.specs.StateArea.{word, valid, markOpen, mostMarks, firstOpen, progress}
+use Rattle.rules.specs.StateArea.{word, valid, markOpen, mostMarks, firstOpen, marksDone, progress}
 use Rattle.rules.proofs.StateWords.{open-here, open-turn, open-end, progress-invalid, progress-valid}
 use Rattle.state_area.specs.First.{First}
 use Rattle.state_area.proofs.Places.{holds-at, holds-not}
@@ -139,12 +138,13 @@ module _ (ws most : ℕ) (st : List ℕ) (m : most ≡ words ws (length st) - 3)
   counted = m
 
   module _ (h : 0 < most) where
-    pub found-at : (p : ℕ) → First erased (marks ws most st) p → p / ws ≡ firstOpen ws st (mostMarks ws st) 0
+    pub found-at : (p : ℕ) → First erased (marks ws most st) p → p / ws ≡ marksDone ws st
+    unfolding marksDone
     found-at p f =
         let i = marks-in ws (length st) most m h in
         by-bytes ws most st (i .0) (i .2) p f ∙ ap (λ (n : ℕ). firstOpen ws st n 0) counted
 
-    pub found-first : getD st (2 * ws) 0 ≡ erased → 0 ≡ firstOpen ws st (mostMarks ws st) 0
+    pub found-first : getD st (2 * ws) 0 ≡ erased → 0 ≡ marksDone ws st
     found-first e =
         let i = marks-in ws (length st) most m h in
         let n : 0 < 2 * ws + most * ws - 2 * ws = omega arith in
@@ -156,13 +156,9 @@ module _ (ws most : ℕ) (st : List ℕ) (m : most ≡ words ws (length st) - 3)
   not-counting v = counted ∙ sym (progress-invalid ws st v)
 
   pub counting : valid ws st ≡ true → firstOpen ws st most 0 ≡ progress ws st
+  unfolding marksDone
   counting v = ap (λ (n : ℕ). firstOpen ws st n 0) counted ∙ sym (progress-valid ws st v)
 
-pick-same : (b : Bool) → pick {X = ℕ} b 0 0 ≡ 0
-unfolding pick
-pick-same true = refl
-pick-same false = refl
-
-pub no-mark : (ws : ℕ) (st : List ℕ) → words ws (length st) - 3 ≡ 0 → 0 ≡ progress ws st
-unfolding progress firstOpen mostMarks
-no-mark ws st z = rw z (sym (pick-same (valid ws st)))
+pub no-mark : (ws : ℕ) (st : List ℕ) → words ws (length st) - 3 ≡ 0 → 0 ≡ marksDone ws st
+unfolding marksDone firstOpen mostMarks
+no-mark ws st z = rw z

@@ -7,7 +7,7 @@ ghost use lib.ListN.{length};
 ghost use Rattle.state.specs.Magic.{throughout};
 ghost use Rattle.geometry.specs.Geometry.{words};
 ghost use Rattle.state_area.specs.Area.{Invalidated, Renewed};
-ghost use Rattle.rules.specs.StateArea.{word, readState, valid, mostMarks, firstOpen, progress};
+ghost use Rattle.rules.specs.StateArea.{word, readState, valid, marksDone, progress};
 use geometry::Offset;
 use mem_flash::Budget;
 use mem_flash::Flow;
@@ -62,7 +62,7 @@ pub fn most_marks(n: usize, ws: usize) -> usize
 // erased byte of them all, wherever in its word it stands, is in the first open mark: one search serves words of every size.
 fn first_open(state: &[u8], ws: usize) -> usize
     requires { ⌜ (0 < ws) × (4 * ws ≤ length (now state)) ⌝ }
-    ensures { λ r. ⌜ r ≡ firstOpen ws (now (state .entry)) (mostMarks ws (now (state .entry))) 0 ⌝ }
+    ensures { λ r. ⌜ r ≡ marksDone ws (now (state .entry)) ⌝ }
 {
     let start = 2 * ws;
     // Where nothing is done yet there is nothing to search.
@@ -73,9 +73,9 @@ fn first_open(state: &[u8], ws: usize) -> usize
     search::first(&state[start..end], State::ERASE_VALUE) / ws
 }
 
-// The first step that is not done, as the marks say it; where they do not count, as many as are read.
-pub fn progress(state: &[u8], ws: usize) -> usize
-    ensures { λ r. ⌜ r ≡ progress ws (now (state .entry)) ⌝ }
+// The leading done marks, whether they count or not.
+pub fn marks_done(state: &[u8], ws: usize) -> usize
+    ensures { λ r. ⌜ r ≡ marksDone ws (now (state .entry)) ⌝ }
 {
     if ws == 0 {
         return 0;
@@ -84,10 +84,17 @@ pub fn progress(state: &[u8], ws: usize) -> usize
     if state.len() / 4 < ws {
         return 0;
     }
+    first_open(state, ws)
+}
+
+// The first step that is not done, as the marks say it; where they do not count, as many as are read.
+pub fn progress(state: &[u8], ws: usize) -> usize
+    ensures { λ r. ⌜ r ≡ progress ws (now (state .entry)) ⌝ }
+{
     if !is_valid(state, ws) {
         return most_marks(state.len(), ws);
     }
-    first_open(state, ws)
+    marks_done(state, ws)
 }
 
 // Makes the progress invalid: one operation.

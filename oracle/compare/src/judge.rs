@@ -32,11 +32,13 @@ impl Judge {
     /// in `expected()`.
     ///
     /// Where `side` is given and document 01 admits the call, the original decides and the model is checked
-    /// beside it. Everywhere else the model decides, refusals included.
+    /// beside it. Everywhere else the model decides, refusals and the boots of request No. 5 included.
     pub fn call(&mut self, side: Option<&dyn Original>, call: &Call, before: &Bench) -> u64 {
         self.expected.clone_from(before);
         let refusal = refusal_of(call, before);
-        let word = match side.filter(|_| refusal == 0 || refusal == 5) {
+        // what the Rust doesn't know is left to the definition
+        let known = !Model::finishes_confirmation(call, &self.expected.lend());
+        let word = match side.filter(|_| known && (refusal == 0 || refusal == 5)) {
             Some(side) => {
                 self.by_original += 1;
                 let word = self.ask_original(side, call, before);

@@ -54,10 +54,14 @@ fn put_long(file: &mut Vec<u8>, number: u64) {
     file.extend_from_slice(&number.to_le_bytes());
 }
 
-/// Asks the original and packs question and answer.
+/// Asks the original and packs question and answer; a boot that finishes a confirmation, which the original doesn't
+/// know, is the model's.
 fn record(side: &dyn Original, call: &Call, before: &Bench) -> Record {
     let refusal = refusal_of(call, before);
     assert!(refusal == 0 || refusal == 5, "only admitted inputs are asked");
+    if Model::finishes_confirmation(call, &before.clone().lend()) {
+        return pack_record(&Model::RIGHT, call, before);
+    }
     pack_record(side, call, before)
 }
 

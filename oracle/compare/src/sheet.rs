@@ -113,8 +113,8 @@ pub fn check(judge: &mut Judge) -> bool {
         .failed;
     failed += swapped(judge)
         .run("j", Kind::StateMarkBooted, 1, pack(CUT, NO_STATE, 1))
-        .run("j", boot, 3, pack(DONE, 1, 3))
-        .shows("j", SWAPPED.0, SWAPPED.1, &reverted)
+        .run("j", boot, 3, pack(DONE, 1, 2))
+        .shows("j", SWAPPED.0, SWAPPED.1, &[(1, 0xD0), (15, 0xFF)])
         .failed;
     failed += k_and_l(judge);
     failed += others(judge);
@@ -134,8 +134,8 @@ fn k_and_l(judge: &mut Judge) -> usize {
     let more = Sheet::start(judge, [4, 2, 4, 2, 15, 1], &[1, 2, 3], &[4, 5, 6, 7], start)
         .run("k with a word more", boot, 24, pack(DONE, 1, 24))
         .run("k with a word more", Kind::StateMarkBooted, 1, pack(CUT, NO_STATE, 1))
-        .run("k with a word more", boot, 7, pack(DONE, 1, 3))
-        .shows("k with a word more", SWAPPED.0, SWAPPED.1, &[(1, 0xC0), (14, 0xFF)])
+        .run("k with a word more", boot, 7, pack(DONE, 1, 2))
+        .shows("k with a word more", SWAPPED.0, SWAPPED.1, &[(1, 0xD0), (14, 0xFF)])
         .failed;
     let l = Sheet::start(judge, [4, 2, 4, 2, 3, 1], &[], &[7], runs(&[(1, 0xF0), (2, 0xFF)]))
         .run("l", boot, 3, pack(DONE, 1, 3))

@@ -46,10 +46,14 @@ pub enum Wrong {
     EraseIsOneOperation,
     UnitsFalling,
     UnitsOfTheOtherImage,
+    ConfirmationReverted,
+    ConfirmsAboveTwoN,
+    ConfirmsAtFourN,
+    ConfirmedAsRevert,
 }
 
 impl Wrong {
-    pub const ALL: [(&'static str, Wrong); 35] = [
+    pub const ALL: [(&'static str, Wrong); 39] = [
         ("low-pages-first", Wrong::LowPagesFirst),
         ("revert-high-pages-first", Wrong::RevertHighPagesFirst),
         ("count-one-more", Wrong::CountOneMore),
@@ -85,6 +89,10 @@ impl Wrong {
         ("erase-is-one-operation", Wrong::EraseIsOneOperation),
         ("units-falling", Wrong::UnitsFalling),
         ("units-of-the-other-image", Wrong::UnitsOfTheOtherImage),
+        ("confirmation-reverted", Wrong::ConfirmationReverted),
+        ("confirms-above-two-n", Wrong::ConfirmsAboveTwoN),
+        ("confirms-at-four-n", Wrong::ConfirmsAtFourN),
+        ("confirmed-as-revert", Wrong::ConfirmedAsRevert),
     ];
 
     pub fn named(name: &str) -> Option<Wrong> {
@@ -193,6 +201,16 @@ impl Answers for Model {
 }
 
 impl Model {
+    /// Whether this call is a boot that finishes a confirmation: request No. 5, which the Rust doesn't know.
+    pub fn finishes_confirmation(call: &Call, lent: &Lent) -> bool {
+        if call.kind != Kind::PrepareBoot || Model::RIGHT.refusal(call, lent) != 0 {
+            return false;
+        }
+        let run = Run::new(Wrong::Nothing, call, lent);
+        Model::RIGHT.state_of(run.word(0)) == SWAP
+            && run.confirming(lent.active.len() / call.geometry.page() as usize)
+    }
+
     fn refusal(&self, call: &Call, lent: &Lent) -> u8 {
         let lengths = Lengths {
             active: lent.active.len(),
@@ -279,15 +297,7 @@ impl Model {
 
     /// Lets the call run without a budget on a copy, then does the first K operations to the areas.
     fn with_budget(&self, call: &Call, lent: Lent, body: impl FnOnce(&mut Run) -> u8) -> u64 {
-        let mut run = Run {
-            wrong: self.wrong,
-            active: lent.active.to_vec(),
-            dfu: lent.dfu.to_vec(),
-            state: lent.state.to_vec(),
-            geometry: call.geometry,
-            word: call.geometry.ws as usize,
-            operations: Vec::new(),
-        };
+        let mut run = Run::new(self.wrong, call, &lent);
         let state = body(&mut run);
         let budget = match self.wrong {
             Wrong::BudgetOneMore => u64::from(call.budget) + 1,
@@ -343,6 +353,19 @@ impl Operation {
 }
 
 impl Run {
+    /// A copy of the areas, with nothing done yet.
+    fn new(wrong: Wrong, call: &Call, lent: &Lent) -> Run {
+        Run {
+            wrong,
+            active: lent.active.to_vec(),
+            dfu: lent.dfu.to_vec(),
+            state: lent.state.to_vec(),
+            geometry: call.geometry,
+            word: call.geometry.ws as usize,
+            operations: Vec::new(),
+        }
+    }
+
     fn perform(&mut self, operation: Operation) {
         match operation {
             Operation::Erase { area, .. } | Operation::Write { area, .. } => {
@@ -425,10 +448,25 @@ impl Run {
             Wrong::ProgressMinus4 => words.saturating_sub(4),
             _ => words - 3,
         };
-        if !self.valid() {
-            return most;
-        }
+        if self.valid() { self.leading(most) } else { most }
+    }
+
+    /// The leading done marks, whether they count or not.
+    fn leading(&self, most: usize) -> usize {
         (0..most).find(|step| !self.done(*step)).unwrap_or(most)
+    }
+
+    /// A confirmation was cut (request No. 5): the progress doesn't count, and the marks are those of a finished
+    /// swap and of a revert that isn't finished.
+    fn confirming(&self, pages: usize) -> bool {
+        let done = self.leading(self.state.len() / self.word - 3);
+        !self.valid()
+            && match self.wrong {
+                Wrong::ConfirmationReverted => false,
+                Wrong::ConfirmsAboveTwoN => 2 * pages < done && done < 4 * pages,
+                Wrong::ConfirmsAtFourN => 2 * pages <= done && done <= 4 * pages,
+                _ => 2 * pages <= done && done < 4 * pages,
+            }
     }
 
     fn boot(&mut self, call: &Call) -> u8 {
@@ -439,6 +477,12 @@ impl Run {
         let page = call.geometry.page() as usize;
         let chunk = call.geometry.b as usize;
         let pages = self.active.len() / page;
+        if self.confirming(pages) {
+            self.erase_state(call);
+            let label = if self.wrong == Wrong::ConfirmedAsRevert { REVERT } else { BOOT };
+            self.write_word(0, MAGICS[label as usize]);
+            return SWAP;
+        }
         if self.progress() < 2 * pages {
             let order: Vec<usize> = match self.wrong {
                 Wrong::LowPagesFirst => (0..pages).collect(),

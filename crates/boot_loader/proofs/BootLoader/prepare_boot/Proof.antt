@@ -6,7 +6,7 @@ use Rattle.boot_loader.proofs.BootLoader.prepare_boot.Statement.{statem
 use Rattle.boot_loader.proofs.BootLoader.prepare_boot.Tie as tie
 use Rattle.boot_loader.proofs.BootLoader.prepare_boot.Reads as reads
 use Rattle.boot_loader.proofs.BootLoader.prepare_boot.Lts as lts
-use Rattle.boot_loader.proofs.BootLoader.swap_or_revert.Reads as swap-or-revert-reads
+use Rattle.boot_loader.proofs.BootLoader.confirm_or_copy.Reads as confirm-or-copy-reads
 use Rattle.geometry.proofs.boot_verdict.Reads as boot-verdict-reads
 use Rattle.state_area.proofs.read.Reads as read-reads
 
@@ -45,8 +45,8 @@ returns-2 : tie.Need-returns-2
 returns-2 c = boot-idle _ _ _ _ (c .before .before .before .before .before .before .boot-verdict .ensures) (c .before .before .before .before .enum-told .given .1) _ (c .before .read .ensures) (idle _ _ _ (c .match2 .keys2))
 
 -- src/lib.rt:62:30
-swap-or-revert-requires : tie.Need-swap-or-revert-requires
-swap-or-revert-requires c κs = let a = c .before .before .before .before .before .before .before .before .before .before .before .before .before .before .before .args in boot-admits _ 0 (flash (a .active .now) (a .dfu .now) (a .state .now)) _ (c .before .before .before .before .before .before .before .before .before .before .boot-verdict .ensures) (c .before .before .before .before .before .before .before .before .enum-told .given .1)
+confirm-or-copy-requires : tie.Need-confirm-or-copy-requires
+confirm-or-copy-requires c κs = let a = c .before .before .before .before .before .before .before .before .before .before .before .before .before .before .before .args in boot-admits _ 0 (flash (a .active .now) (a .dfu .now) (a .state .now)) _ (c .before .before .before .before .before .before .before .before .before .before .boot-verdict .ensures) (c .before .before .before .before .before .before .before .before .enum-told .given .1)
 
 -- src/lib.rt:62:22
 enum-known-rest : tie.Need-enum-known-rest
@@ -70,11 +70,11 @@ same-length-4 c = search needs
 
 -- src/lib.rt:63:13
 returns-3 : tie.Need-returns-3
-returns-3 c = boot-cut _ _ _ _ (c .before .before .before .before .before .before .before .before .before .before .before .before .before .before .before .before .before .before .before .boot-verdict .ensures) (c .before .before .before .before .before .before .before .before .before .before .before .before .before .before .before .before .before .enum-told .given .1) _ (c .before .before .before .before .before .before .before .before .before .before .before .before .before .before .read .ensures) _ (c .before .before .before .before .before .before .before .before .before .before .before .before .enum-told2 .given .1) _ _ (c .before .before .before .before .before .before .before .before .swap-or-revert .ensures) (c .enum-told3 .given .1)
+returns-3 c = boot-cut _ _ _ _ (c .before .before .before .before .before .before .before .before .before .before .before .before .before .before .before .before .before .before .before .boot-verdict .ensures) (c .before .before .before .before .before .before .before .before .before .before .before .before .before .before .before .before .before .enum-told .given .1) _ (c .before .before .before .before .before .before .before .before .before .before .before .before .before .before .read .ensures) _ (c .before .before .before .before .before .before .before .before .before .before .before .before .enum-told2 .given .1) _ _ (c .before .before .before .before .before .before .before .before .confirm-or-copy .ensures) (c .enum-told3 .given .1)
 
 -- src/lib.rt:65:30
 sub-count : tie.Need-sub-count
-sub-count c = on-low _ _ _ _ _ (c .before .before .before .before .before .before .before .before .before .before .swap-or-revert .ensures) _ (c .before .before .rest .given .1)
+sub-count c = on-low _ _ _ _ _ (c .before .before .before .before .before .before .before .before .before .before .confirm-or-copy .ensures) _ (c .before .before .rest .given .1)
 
 -- src/lib.rt:42:5
 same-length-5 : tie.Need-same-length-5
@@ -90,7 +90,7 @@ same-length-7 c = search needs
 
 -- src/lib.rt:42:5
 returns-4 : tie.Need-returns-4
-returns-4 c = boot-found _ _ _ _ (c .before .before .before .before .before .before .before .before .before .before .before .before .before .before .before .before .before .before .before .before .before .boot-verdict .ensures) (c .before .before .before .before .before .before .before .before .before .before .before .before .before .before .before .before .before .before .before .enum-told .given .1) _ (c .before .before .before .before .before .before .before .before .before .before .before .before .before .before .before .before .read .ensures) _ (c .before .before .before .before .before .before .before .before .before .before .before .before .before .before .enum-told2 .given .1) _ _ (c .before .before .before .before .before .before .before .before .before .before .swap-or-revert .ensures) _ (c .before .before .rest .given .1)
+returns-4 c = boot-found _ _ _ _ (c .before .before .before .before .before .before .before .before .before .before .before .before .before .before .before .before .before .before .before .before .before .boot-verdict .ensures) (c .before .before .before .before .before .before .before .before .before .before .before .before .before .before .before .before .before .before .before .enum-told .given .1) _ (c .before .before .before .before .before .before .before .before .before .before .before .before .before .before .before .before .read .ensures) _ (c .before .before .before .before .before .before .before .before .before .before .before .before .before .before .enum-told2 .given .1) _ _ (c .before .before .before .before .before .before .before .before .before .before .confirm-or-copy .ensures) _ (c .before .before .rest .given .1)
 
 pub prepare-boot-spec : {M : Type 1} → statement M
 prepare-boot-spec =
@@ -105,7 +105,7 @@ prepare-boot-spec =
     enum-told-2
     same-length
     returns-2
-    swap-or-revert-requires
+    confirm-or-copy-requires
     enum-known-rest
     enum-told-3
     same-length-2

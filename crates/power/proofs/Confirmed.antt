@@ -1,0 +1,292 @@
+-- A confirmation that was cut (specs/Confirm): `confirming`. Its state area is that of a finished swap, invalid, with so many units
+-- erased: with none a boot finishes the erase and writes the Boot magic, with some it reads Boot. One lemma for one run, then any
+-- number of them. Assumes nothing.
+use mathlib.Core.Path.{_≡_, refl, sym, ap, ap₂, _∙_, subst}
+use mathlib.Core.Bool.{Bool, true}
+use mathlib.Core.Option.{some}
+use mathlib.Core.Logic.{_⊎_, inl, inr}
+use mathlib.Core.List.{List, [], _∷_, _++_}
+use Prim.Native.Nat.{ℕ, zero, suc, _+_, _-_, _*_, _/_, _≤_, _<_}
+use native.Mathlib.Nat.{zero-mul, mul-le-mul-right, lt-of-not-le}
+use native.Mathlib.Decide.{decLe}
+use native.Mathlib.Omega.{arith}
+use lib.ListN.{length, take, replicate}
+use Rattle.state.specs.declared.State.{State}
+use Rattle.state.specs.declared.State.the-variants.{Boot, Swap, Revert}
+use Rattle.state.specs.Choice.{pick}
+use Rattle.state.specs.Magic.{erased, marked, magic, throughout}
+use Rattle.geometry.specs.declared.Geometry.{Geometry}
+use Rattle.geometry.specs.Geometry.{words}
+use Rattle.mem_flash.specs.Flash.{Flash, Op, blank, writtenAt, applyAll, after}
+use Rattle.rules.specs.StateArea.{word, readState, valid, marksDone, invalidateOp}
+use Rattle.rules.specs.Steps.{pageCount}
+use Rattle.rules.specs.Calls.{Call, left}
+use Rattle.rules.specs.Boot.{renewOps, confirming as pending, bootOps}
+use Rattle.rules.specs.FirmwareState.{setMagicOps, mark}
+use Rattle.rules.specs.FirmwareUpdater.{updaterCall, updaterMark, updaterMarkBooted}
+use Rattle.rules.specs.Power.{swapMarks, stateUnits}
+use Rattle.power.specs.Power.{answer, ran, runs, AllCut}
+use Rattle.power.specs.Confirm.{Swapped, firmware-state, updater, CutConfirmation, voidMarks, confirmedPart, confirmedWhole, unitsErased, Confirms, Confirming}
+use Rattle.power.proofs.Words.{spread, marks, length-spread, length-marks, reads-swap, done-marks, counted, void, not-booted, confirming-swapped, boot-reads, area-reads, blank-boot, void-written}
+use Rattle.power.proofs.Areas.{after-all, after-none}
+use Rattle.power.proofs.Finish.{closed, renew-count, renewed, renew-part, void-part}
+use Rattle.power.proofs.Start.{swapped-marks, void-marks, Sized, sized}
+use Rattle.power.proofs.Cuts.{lawful, state-rows, updater-rows}
+use Rattle.power.proofs.Runs.{Admits, ran-after, admits-after, admits-ran, cut-short, whole-long, answer-done}
+use Rattle.power.proofs.Swapped.{boot-idle, boot-confirms}
+
+no-revert : (s : State) → (s ≡ Swap) ⊎ (s ≡ Boot) → s ≡ Revert → ⊥
+no-revert s (inl e) r = let z : _≡_ {A = ℕ} 0 1 = cc in omega arith
+no-revert s (inr e) r = let z : _≡_ {A = ℕ} 0 1 = cc in omega arith
+
+module _ (g : Geometry) (f : Flash) (s : Swapped g f) where
+  abbrev N : ℕ
+  N = pageCount g f
+
+  abbrev S : ℕ
+  S = length (f .state)
+
+  abbrev t : ℕ
+  t = words (g .ws) S - 2
+
+  abbrev U : ℕ
+  U = stateUnits g f
+
+  z : Sized g f t
+  z = sized g f (s .admitted)
+
+  -- the marks that are void
+  abbrev st₀ : List ℕ
+  st₀ = voidMarks (g .ws) (2 * N) S
+
+  room : 0 < t - 2 * N
+  room = omega (arith, z .room)
+
+  void-is : spread (g .ws) (marks marked (2 * N) (t - 2 * N)) ≡ st₀
+  void-is = void-marks (g .ws) (2 * N) t (omega (arith, z .room)) ∙ ap (voidMarks (g .ws) (2 * N)) (sym (z .state))
+
+  swapped-is : f .state ≡ spread (g .ws) (marks erased (2 * N) (t - 2 * N))
+  swapped-is =
+      s .state ∙ ap (swapMarks (g .ws) N) (z .state) ∙ sym (swapped-marks (g .ws) N t (omega (arith, z .room)))
+
+  void-size : length st₀ ≡ S
+  void-size =
+      let e : length (marks marked (2 * N) (t - 2 * N)) ≡ 2 + t = omega (arith, z .room, length-marks marked (2 * N) (t - 2 * N)) in
+      ap length (sym void-is) ∙ length-spread (g .ws) (marks marked (2 * N) (t - 2 * N)) ∙ ap (λ (i : ℕ). i * g .ws) e
+      ∙ sym (z .state)
+
+  -- ---- no unit is erased yet
+
+  abbrev start : Flash
+  start = closed (f .active) (f .dfu) st₀
+
+  part-none : confirmedPart g 0 f ≡ start
+  unfolding confirmedPart closed blank
+  part-none = ap (λ (n : ℕ). closed (f .active) (f .dfu) (blank n st₀)) (zero-mul (g .es))
+
+  start-reads : readState (g .ws) (start .state) ≡ Swap
+  unfolding closed
+  start-reads = ap (readState (g .ws)) (sym void-is) ∙ reads-swap (g .ws) (z .ws) marked (2 * N) (t - 2 * N) room
+
+  start-pending : pending (g .ws) (pageCount g start) (start .state) ≡ true
+  unfolding closed pageCount
+  start-pending =
+      let d : marksDone (g .ws) (spread (g .ws) (marks marked (2 * N) (t - 2 * N))) ≡ 2 * N =
+      done-marks (g .ws) (z .ws) marked (2 * N) (t - 2 * N) room in
+      subst (λ (st : List ℕ). pending (g .ws) N st ≡ true) void-is
+      (confirming-swapped (g .ws) N (spread (g .ws) (marks marked (2 * N) (t - 2 * N)))
+      (void (g .ws) (z .ws) (2 * N) (t - 2 * N) room) (omega (arith, d)) (omega (arith, d, s .some-page)))
+
+  start-wants : bootOps g start ≡ renewOps (g .es) (g .ws) S (magic Boot)
+  unfolding closed
+  start-wants =
+      boot-confirms g start start-reads start-pending ∙ ap (λ (n : ℕ). renewOps (g .es) (g .ws) n (magic Boot)) void-size
+
+  start-count : length (bootOps g start) ≡ 1 + U
+  unfolding stateUnits
+  start-count = ap length start-wants ∙ renew-count (g .es) (g .ws) S (magic Boot)
+
+  -- a boot from there, cut after k units, and whole
+  start-cut : (k : ℕ) → k ≤ U → after k (bootOps g start) start ≡ confirmedPart g k f
+  unfolding after confirmedPart closed stateUnits
+  start-cut k h =
+      ap (λ (os : List Op). applyAll (take k os) start) start-wants
+      ∙ renew-part (f .active) (f .dfu) (g .es) (g .ws) S (magic Boot) k st₀ h
+
+  start-whole : (k : ℕ) → length (bootOps g start) ≤ k → after k (bootOps g start) start ≡ confirmedWhole g f
+  unfolding confirmedWhole closed
+  start-whole k h =
+      after-all k (bootOps g start) start h ∙ ap (λ (os : List Op). applyAll os start) start-wants
+      ∙ renewed (f .active) (f .dfu) Boot (g .es) (g .ws) S st₀ (z .units) void-size (omega (arith, z .state))
+
+  -- ---- units are erased, or the Boot magic is written
+
+  part-boot : (u : ℕ) → 1 ≤ u → u ≤ U → readState (g .ws) (confirmedPart g u f .state) ≡ Boot
+  unfolding confirmedPart stateUnits
+  part-boot u one most =
+      blank-boot (g .ws) (u * g .es) st₀ (z .ws) (omega (arith, mul-le-mul-right (g .es) one, z .unit))
+      (omega (arith, mul-le-mul-right (g .es) most, z .units, void-size))
+
+  whole-boot : readState (g .ws) (confirmedWhole g f .state) ≡ Boot
+  unfolding confirmedWhole
+  whole-boot = area-reads Boot (g .ws) S (boot-reads (g .ws) (z .ws))
+
+  -- ---- any budgets
+
+  data Place (x : Flash) : Type 0 where
+    part : (u : ℕ) → u ≤ U → x ≡ confirmedPart g u f → Place x
+    whole : x ≡ confirmedWhole g f → Place x
+
+  ran-idle : (x : Flash) → Admits g x → readState (g .ws) (x .state) ≡ Boot → (k : ℕ) → ran g k x ≡ x
+  ran-idle x a e k = ran-after g k x a ∙ ap (λ (os : List Op). after k os x) (boot-idle g x e) ∙ after-none k x
+
+  ran-start : (x : Flash) → Admits g x → x ≡ confirmedPart g 0 f → (k : ℕ) → ran g k x ≡ after k (bootOps g start) start
+  ran-start x a e k = ran-after g k x a ∙ ap (λ (y : Flash). after k (bootOps g y) y) (e ∙ part-none)
+
+  reads-at : (x y : Flash) → x ≡ y → readState (g .ws) (x .state) ≡ readState (g .ws) (y .state)
+  reads-at x y e = ap (λ (w : Flash). readState (g .ws) (w .state)) e
+
+  kept : (x : Flash) → Admits g x → Place x → (k : ℕ) → Place (ran g k x)
+  kept x a (part zero most e) k = go (decLe k U)
+    where
+      go : Dec (k ≤ U) → Place (ran g k x)
+      go (yes h) = part k h (ran-start x a e k ∙ start-cut k h)
+      go (no h) = whole (ran-start x a e k ∙ start-whole k (omega (arith, start-count, lt-of-not-le h)))
+  kept x a (part (suc u) most e) k =
+      part (suc u) most (ran-idle x a (reads-at x (confirmedPart g (suc u) f) e ∙ part-boot (suc u) (omega arith) most) k ∙ e)
+  kept x a (whole e) k = whole (ran-idle x a (reads-at x (confirmedWhole g f) e ∙ whole-boot) k ∙ e)
+
+  all-kept : (ks : List ℕ) (x : Flash) → Admits g x → Place x → Place (runs g ks x)
+  unfolding runs
+  all-kept [] x a p = p
+  all-kept (k ∷ ks) x a p = all-kept ks (ran g k x) (admits-ran g k x a) (kept x a p k)
+
+  place-active : (x : Flash) → Place x → x .active ≡ f .active
+  unfolding confirmedPart confirmedWhole
+  place-active x (part u most e) = ap (λ (y : Flash). y .active) e
+  place-active x (whole e) = ap (λ (y : Flash). y .active) e
+
+  place-dfu : (x : Flash) → Place x → x .dfu ≡ f .dfu
+  unfolding confirmedPart confirmedWhole
+  place-dfu x (part u most e) = ap (λ (y : Flash). y .dfu) e
+  place-dfu x (whole e) = ap (λ (y : Flash). y .dfu) e
+
+  place-reads : (x : Flash) → Place x → readState (g .ws) (x .state) ≡ Revert → ⊥
+  place-reads x (part zero most e) r = no-revert _ (inl (reads-at x start (e ∙ part-none) ∙ start-reads)) r
+  place-reads x (part (suc u) most e) r =
+      no-revert _ (inr (reads-at x (confirmedPart g (suc u) f) e ∙ part-boot (suc u) (omega arith) most)) r
+  place-reads x (whole e) r = no-revert _ (inr (reads-at x (confirmedWhole g f) e ∙ whole-boot)) r
+
+  -- ---- boots that are cut
+
+  record Erased (x : Flash) (u : ℕ) : Type 0 where
+    most : u ≤ U
+    same : x ≡ confirmedPart g u f
+    admits : Admits g x
+
+  all-cut : (ks : List ℕ) (u : ℕ) (x : Flash) → Erased x u → AllCut g ks x → Erased (runs g ks x) (unitsErased u ks)
+  unfolding runs AllCut unitsErased
+  all-cut [] u x o c = o
+  all-cut (j ∷ js) zero x o c =
+      let h : j ≤ U =
+      omega (
+        arith,
+        cut-short g j x (o .admits) (c .0),
+        ap (λ (y : Flash). length (bootOps g y)) (o .same ∙ part-none),
+        start-count,
+      ) in
+      all-cut js j (ran g j x)
+      (record {
+        most = h;
+        same = ran-start x (o .admits) (o .same) j ∙ start-cut j h;
+        admits = admits-ran g j x (o .admits);
+      })
+      (c .1)
+  all-cut (j ∷ js) (suc u) x o c =
+      let e = reads-at x (confirmedPart g (suc u) f) (o .same) ∙ part-boot (suc u) (omega arith) (o .most) in
+      absurd (omega (arith, cut-short g j x (o .admits) (c .0), ap length (boot-idle g x e)))
+
+  -- then one that is not
+  finish : (y : Flash) (j : ℕ) → Admits g y → y ≡ start → length (bootOps g y) ≤ j
+      → (answer g j y ≡ record { number = 0; state = some Swap; count = 1 + U }) × (ran g j y ≡ confirmedWhole g f)
+  finish y j a e long = (
+    answer-done g j y a long
+        ∙ ap₂ (λ (r : State) (n : ℕ). record { number = 0; state = some r; count = n }) (reads-at y start e ∙ start-reads)
+        (ap (λ (x : Flash). length (bootOps g x)) e ∙ start-count),
+    ran-after g j y a ∙ ap (λ (x : Flash). after j (bootOps g x) x) e
+        ∙ start-whole j (omega (arith, long, ap (λ (x : Flash). length (bootOps g x)) e)),
+  )
+
+  rest : (y : Flash) (j u : ℕ) → Admits g y → y ≡ confirmedPart g u f → 1 ≤ u → u ≤ U
+      → (answer g j y ≡ record { number = 0; state = some Boot; count = 0 }) × (ran g j y ≡ confirmedPart g u f)
+  rest y j u a e one most =
+      let r : readState (g .ws) (y .state) ≡ Boot = reads-at y (confirmedPart g u f) e ∙ part-boot u one most in
+      let n : length (bootOps g y) ≡ 0 = ap length (boot-idle g y r) in (
+        answer-done g j y a (omega (arith, n))
+            ∙ ap₂ (λ (r : State) (n : ℕ). record { number = 0; state = some r; count = n }) r n,
+        ran-idle y a r j ∙ e,
+      )
+
+  confirms : (x : Flash) (u : ℕ) → Erased x u → Confirms g f u x
+  confirms x u o =
+      record {
+        active = λ ks. place-active (runs g ks x) (at ks);
+        dfu = λ ks. place-dfu (runs g ks x) (at ks);
+        never = λ ks. place-reads (runs g ks x) (at ks);
+        finishes = λ ks j w none.
+            let c = all-cut ks u x o (w .cuts) in
+            finish (runs g ks x) j (c .admits)
+            (c .same ∙ ap (λ (i : ℕ). confirmedPart g i f) none ∙ part-none)
+            (whole-long g j (runs g ks x) (c .admits) (w .whole));
+        rests = λ ks j w one.
+            let c = all-cut ks u x o (w .cuts) in
+            let r = rest (runs g ks x) j (unitsErased u ks) (c .admits) (c .same) one (c .most) in
+            record { reached = c .same; answers = r .0; flash = r .1 };
+      }
+    where
+      at : (ks : List ℕ) → Place (runs g ks x)
+      at ks = all-kept ks x (o .admits) (part u (o .most) (o .same))
+
+  -- ---- mark_booted, cut after its invalidation
+
+  mark-wants : setMagicOps (g .es) (g .ws) (magic Boot) (f .state) ≡ invalidateOp (g .ws) ∷ renewOps (g .es) (g .ws) S (magic Boot)
+  unfolding setMagicOps pick
+  mark-wants =
+      ap₂ (λ (a b : Bool). pick a [] (pick b (invalidateOp (g .ws) ∷ []) [] ++ renewOps (g .es) (g .ws) S (magic Boot)))
+      (ap (λ (st : List ℕ). throughout (magic Boot) (word (g .ws) 0 st)) swapped-is
+      ∙ not-booted (g .ws) (z .ws) erased (2 * N) (t - 2 * N) room)
+      (ap (valid (g .ws)) swapped-is ∙ counted (g .ws) (z .ws) (2 * N) (t - 2 * N) room)
+
+  invalid-is : writtenAt (g .ws) (replicate (g .ws) marked) (f .state) ≡ st₀
+  invalid-is =
+      ap (writtenAt (g .ws) (replicate (g .ws) marked)) swapped-is ∙ void-written (g .ws) erased (2 * N) (t - 2 * N) ∙ void-is
+
+  module _ (c : Call) (table : c .refusal < 7) (ops : c .ops ≡ setMagicOps (g .es) (g .ws) (magic Boot) (f .state)) where
+    mark-cut : (k : ℕ) → CutConfirmation c k → Erased (left c k f) (k - 1)
+    unfolding after closed confirmedPart stateUnits
+    mark-cut k h =
+        let law = lawful c table in
+        let short = law .cut k (h .cut) .1 in
+        let n : length (c .ops) ≡ 2 + U =
+        ap length (ops ∙ mark-wants) ∙ omega (arith, renew-count (g .es) (g .ws) S (magic Boot)) in
+        let most : k - 1 ≤ U = omega arith in
+        let e : k ≡ suc (k - 1) = omega (arith, h .invalidated) in
+        let leaves : left c k f ≡ after k (c .ops) f = law .cut-leaves k f (h .cut) .0 in
+        record {
+          most = most;
+          same =
+              leaves
+              ∙ ap₂ (λ (i : ℕ) (os : List Op). applyAll (take i os) f) e (ops ∙ mark-wants)
+              ∙ void-part (f .active) (f .dfu) (g .es) (g .ws) S (magic Boot) (k - 1) (f .state) most
+              ∙ ap (λ (st : List ℕ). closed (f .active) (f .dfu) (blank ((k - 1) * g .es) st)) invalid-is;
+          admits = subst (Admits g) (sym leaves) (admits-after g k f (s .admitted) (c .ops));
+        }
+
+pub confirming : (g : Geometry) (f : Flash) → Confirming g f
+unfolding mark updaterCall updaterMark updaterMarkBooted
+confirming g f s c firmware-state k h =
+    confirms g f s (left c k f) (k - 1) (mark-cut g f s c (state-rows (g .es) (g .ws) _) refl k h)
+confirming g f s c (updater z es ws) k h =
+    confirms g f s (left c k f) (k - 1)
+    (mark-cut g f s c (updater-rows z _ _ _ _)
+    (ap₂ (λ (a b : ℕ). setMagicOps a b (magic Boot) (f .state)) es ws) k h)
