@@ -5,7 +5,7 @@ ghost use Rattle.mem_flash.specs.Run.{flash};
 ghost use Rattle.bench_run.specs.Images.{Filled, Started, Obeyed};
 use crate::MOST;
 use boot_loader::BootLoader;
-use firmware_updater::BlockingFirmwareState;
+use firmware_state::BlockingFirmwareState;
 use geometry::Geometry;
 use geometry::Refusal;
 use lines::Command;
