@@ -87,11 +87,11 @@ static void boots(void)
     CHECK(is(boot(0), EB_CUT, EB_NO_STATE, 0));
     CHECK(shows("\1\2\3", "\4\5\6\7", s));
 
-    start(); /* j: the progress is invalidated, and no more */
+    start(); /* j: the progress is invalidated, and no more; the boot finishes the confirmation */
     CHECK(is(boot(24), EB_DONE, EB_SWAP, 24));
     CHECK(is(eb_state_mark_booted(state, 16, 16, 1, 1), EB_CUT, EB_NO_STATE, 1));
-    CHECK(is(boot(3), EB_DONE, EB_SWAP, 3));
-    runs(s, 1, 0xC0, 15, 0xFF, 0, 0, 0, 0);
+    CHECK(is(boot(3), EB_DONE, EB_SWAP, 2));
+    runs(s, 1, 0xD0, 15, 0xFF, 0, 0, 0, 0);
     CHECK(shows("\4\5\6", "\4\1\2\3", s));
 
     /* each size is read: the refusals of rows 1 to 4 */

@@ -39,29 +39,25 @@ module _ (g : Geometry) (a d s : ℕ) (w : Admitted g a d s) where
         let l : k * page g ≤ a / page g * page g = mul-le-mul-right (page g) (omega (arith, e)) in
         omega (arith, div-mul-le-self a (page g), w .dfu-longer)
 
-    pub room-dfu : (i from to : ℕ) → i < 4 * n → from < n → to ≤ n → Room g i from a to d s
-    room-dfu i from to x y z =
+    -- a step between any two areas that have its pages
+    room : (i from source to target : ℕ) → i < 4 * n → from * page g + page g ≤ source → to * page g + page g ≤ target
+        → Room g i from source to target s
+    room i from source to target x y z =
         record {
           word = w .numbers .ws .some;
           chunk = w .numbers .b .some;
           chunks = even-times _ _ (w .page-b);
           words = words-in;
           mark = marks-in i x;
-          source = in-active from y;
-          target = in-dfu to z;
+          source = y;
+          target = z;
         }
 
+    pub room-dfu : (i from to : ℕ) → i < 4 * n → from < n → to ≤ n → Room g i from a to d s
+    room-dfu i from to x y z = room i from a to d x (in-active from y) (in-dfu to z)
+
     pub room-active : (i from to : ℕ) → i < 4 * n → from ≤ n → to < n → Room g i from d to a s
-    room-active i from to x y z =
-        record {
-          word = w .numbers .ws .some;
-          chunk = w .numbers .b .some;
-          chunks = even-times _ _ (w .page-b);
-          words = words-in;
-          mark = marks-in i x;
-          source = in-dfu from y;
-          target = in-active to z;
-        }
+    room-active i from to x y z = room i from d to a x (in-dfu from y) (in-active to z)
 
     -- a step's number is below the state area's length
     pub index-low : (i : ℕ) → i < 4 * n → i < s

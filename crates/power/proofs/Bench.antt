@@ -12,12 +12,12 @@ use Rattle.rules.specs.Steps.{toDfu, toActive, swapFrom, revertFrom, swapSteps,
 use Rattle.rules.specs.Calls.{report, left}
 use Rattle.rules.specs.Boot.{renewOps, finishOps, swapOrRevertOps, confirming, bootOpsIn, bootOps, prepareBoot}
 use Rattle.rules.specs.FirmwareState.{setMagicOps, mark}
-use Rattle.rules.specs.Power.{magicArea, Fresh, swapMarks, swapTable, pageAt, withPage, revertImages, reverted, revertMarks, revertedPart, revertedErased, stateUnits, stepCost}
+use Rattle.rules.specs.Power.{magicArea, Fresh, swapMarks, swapTable, pageAt, withPage, revertImages, reverted, revertMarks, revertedPart, revertedErased, stateUnits, stepCost, voidMarks}
 use Rattle.rules.specs.Sheet.{budget, call, walk, computed, told, done, cut, sizes, fresh, pages as filled, zeros, ff}
 use Rattle.rules.proofs.Sheet.{swapped-sheet, reverted-sheet}
 use Rattle.power.specs.Power.{Marked, Ready}
 use Rattle.power.specs.Bench.{noPages, OnTheBench, fine, fineCase, finely, InUnits, confirmation, Unconfirmed}
-use Rattle.power.specs.Confirm.{Swapped, firmware-state, CutConfirmation, voidMarks, confirmedPart, confirmedWhole}
+use Rattle.power.specs.Confirm.{Swapped, firmware-state, CutConfirmation, confirmedPart, confirmedWhole}
 use Rattle.power.proofs.Proved.{power, no-pages}
 use Rattle.power.proofs.Confirmed.{confirming as cut-confirmed}
 

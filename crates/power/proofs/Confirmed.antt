@@ -24,9 +24,9 @@ use Rattle.rules.specs.Calls.{Call, left}
 use Rattle.rules.specs.Boot.{renewOps, confirming as pending, bootOps}
 use Rattle.rules.specs.FirmwareState.{setMagicOps, mark}
 use Rattle.rules.specs.FirmwareUpdater.{updaterCall, updaterMark, updaterMarkBooted}
-use Rattle.rules.specs.Power.{swapMarks, stateUnits}
+use Rattle.rules.specs.Power.{swapMarks, stateUnits, voidMarks}
 use Rattle.power.specs.Power.{answer, ran, runs, AllCut}
-use Rattle.power.specs.Confirm.{Swapped, firmware-state, updater, CutConfirmation, voidMarks, confirmedPart, confirmedWhole, unitsErased, Confirms, Confirming}
+use Rattle.power.specs.Confirm.{Swapped, firmware-state, updater, CutConfirmation, confirmedPart, confirmedWhole, unitsErased, Confirms, Confirming}
 use Rattle.power.proofs.Words.{spread, marks, length-spread, length-marks, reads-swap, done-marks, counted, void, not-booted, confirming-swapped, boot-reads, area-reads, blank-boot, void-written}
 use Rattle.power.proofs.Areas.{after-all, after-none}
 use Rattle.power.proofs.Finish.{closed, renew-count, renewed, renew-part, void-part}

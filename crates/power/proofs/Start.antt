@@ -17,9 +17,8 @@ use Rattle.geometry.proofs.Tests.{even-times, page-some}
 use Rattle.mem_flash.specs.Flash.{Area, Flash}
 use Rattle.rules.specs.StateArea.{progress}
 use Rattle.rules.specs.Steps.{unitOf, pageCount}
-use Rattle.rules.specs.Power.{magicArea, swapMarks, revertMarks, pageAt, withPage, stepCost, stepTo, nextCost}
+use Rattle.rules.specs.Power.{magicArea, swapMarks, revertMarks, pageAt, withPage, stepCost, stepTo, nextCost, voidMarks}
 use Rattle.power.specs.Power.{Bytes, EnoughWords}
-use Rattle.power.specs.Confirm.{voidMarks}
 use Rattle.power.proofs.Bytes.{bytes-take, bytes-drop, bytes-append}
 use Rattle.power.proofs.Pages.{mix, pages-le, page-take, page-append-left, page-append-right}
 use Rattle.power.proofs.Words.{spread, marks, length-spread, length-marks, spread-append, spread-replicate}

@@ -3,11 +3,10 @@
 -- nothing.
 use mathlib.Core.Path.{_≡_}
 use mathlib.Core.Option.{some}
-use mathlib.Core.List.{List, [], _∷_, _++_}
+use mathlib.Core.List.{List, [], _∷_}
 use Prim.Native.Nat.{ℕ, _+_, _-_, _*_, _≤_}
-use lib.ListN.{length, replicate}
+use lib.ListN.{length}
 use Rattle.state.specs.declared.State.the-variants.{Boot, Swap, Revert}
-use Rattle.state.specs.Magic.{erased, marked, magic}
 use Rattle.geometry.specs.declared.Geometry.{Geometry}
 use Rattle.geometry.specs.declared.Sizes.{Sizes}
 use Rattle.geometry.specs.Refusals.{bootRefusal}
@@ -17,7 +16,7 @@ use Rattle.rules.specs.Steps.{pageCount}
 use Rattle.rules.specs.Calls.{Call, report, left}
 use Rattle.rules.specs.FirmwareState.{mark}
 use Rattle.rules.specs.FirmwareUpdater.{updaterMarkBooted}
-use Rattle.rules.specs.Power.{magicArea, swapMarks, stateUnits}
+use Rattle.rules.specs.Power.{magicArea, swapMarks, voidMarks, stateUnits}
 use Rattle.power.specs.Power.{answer, ran, runs, FirstWhole, Rests, restated}
 
 -- an admitted geometry with N pages, N at least 1, and the state bytes of a finished swap; the images are any
@@ -37,10 +36,6 @@ pub record CutConfirmation (c : Call) (k : ℕ) : Type 0 where
   pub invalidated : 1 ≤ k
 
 -- ---- the state area
-
--- n bytes with m marks done, and invalid
-unfoldable pub voidMarks : ℕ → ℕ → ℕ → List ℕ
-voidMarks ws m n = replicate ws (magic Swap) ++ (replicate ((1 + m) * ws) marked ++ replicate (n - (2 + m) * ws) erased)
 
 -- the marks of a finished swap, invalid, with the first units erased and the rest as they were
 unfoldable pub confirmedPart : Geometry → ℕ → Flash → Flash

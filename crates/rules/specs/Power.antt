@@ -63,10 +63,13 @@ reverted g f = revertImages g (magicArea (g .ws) Revert (length (f .state))) f
 unfoldable pub revertedErased : Geometry → Flash → Flash
 revertedErased g f = revertImages g (replicate (length (f .state)) erased) f
 
--- the state area of n bytes when the revert of `count` pages begins to erase it: invalid, every mark of swap and revert done
+-- a state area of n bytes with m marks done whose progress does not count
+unfoldable pub voidMarks : ℕ → ℕ → ℕ → List ℕ
+voidMarks ws m n = replicate ws (magic Swap) ++ (replicate ((1 + m) * ws) marked ++ replicate (n - (2 + m) * ws) erased)
+
+-- what the revert of `count` pages begins to erase: invalid, every mark of swap and revert done
 unfoldable pub revertMarks : ℕ → ℕ → ℕ → List ℕ
-revertMarks ws count n =
-    replicate ws (magic Swap) ++ (replicate ((1 + 4 * count) * ws) marked ++ replicate (n - (2 + 4 * count) * ws) erased)
+revertMarks ws count n = voidMarks ws (4 * count) n
 
 -- or, where a cut fell inside the state's erase, its first units erased and the rest as they were
 unfoldable pub revertedPart : Geometry → ℕ → Flash → Flash
