@@ -189,6 +189,12 @@ fn labels() {
     ask("marked again before it is confirmed", &Ones {}, &call(Kind::StateMarkUpdated, ONES), &mut again);
     ask("then boot: reverts, and answers Swap", &Ones {}, &boot, &mut again);
     ask("then boot: answers Revert", &Ones {}, &boot, &mut again);
+    let mut mixed = bench(&[1, 2, 3], &[4, 5, 6, 7], &[&[0xF0][..], &[0xFF; 13]].concat());
+    ask("case k with pages of one byte, 4N + 2 words: swap", &Ones {}, &boot, &mut mixed);
+    ask("mark_booted cut after one", &Ones {}, &booted, &mut mixed);
+    ask("then boot: a mixed image", &Ones {}, &boot, &mut mixed);
+    let mut confirmed = bench(&[2], &[2, 1], &[0xF0, 0, 0, 0, 0xFF, 0xFF, 0xFF]);
+    ask("case j with one page: a cut confirmation ends as Revert", &Ones {}, &boot, &mut confirmed);
     let mut garbage = bench(&[], &[0], &[0x12, 0x34]);
     let write = Call { data: &[7], ..call(Kind::WriteFirmware, ONES) };
     ask("write_firmware in a state that is no magic", &Ones {}, &write, &mut garbage);
