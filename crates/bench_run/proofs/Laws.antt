@@ -12,7 +12,6 @@ use Rattle.geometry.specs.declared.Geometry.{Geometry}
 use Rattle.geometry.specs.declared.Verdict.{Verdict}
 use Rattle.geometry.specs.declared.Verdict.the-variants as verdicts
 use Rattle.geometry.specs.declared.Refusal.{Refusal}
-use Rattle.geometry.specs.declared.Refusal.the-variants as refusals
 use Rattle.geometry.specs.Geometry.{page}
 use Rattle.geometry.specs.Refusals.{number, verdict, bootRefusal}
 use Rattle.geometry.proofs.Tests.{page-some}
@@ -22,6 +21,7 @@ use Rattle.rules.specs.declared.Answer.{Answer}
 use Rattle.rules.specs.Calls.{Did}
 use Rattle.rules.specs.Boot.{prepareBoot}
 use Rattle.rules.specs.FirmwareState.{mark}
+use Rattle.rules.proofs.Did.{number-some}
 use Rattle.lines.specs.declared.Lengths.{Lengths}
 use Rattle.lines.specs.declared.Command.{Command}
 use Rattle.lines.specs.declared.Command.the-variants.{Update, Booted, Boot}
@@ -60,20 +60,11 @@ obeyed-boot g h command k a d st a′ d′ st′ r e q p = rw (q, ← e) p
 
 -- ---- the first two lines
 
-refused-some : (why : Refusal) → 0 < number why
-unfolding number
-refused-some refusals.Limit = omega arith
-refused-some refusals.Page = omega arith
-refused-some refusals.Area = omega arith
-refused-some refusals.StateArea = omega arith
-refused-some refusals.BadState = omega arith
-refused-some refusals.Range = omega arith
-
 module _ (g : Geometry) (l : Lengths) (v : Verdict) (judged : verdict v ≡ bootRefusal g (l .active) (l .dfu) (l .state)) where
   pub begun-refused : (a d : List ℕ) (why : Refusal) → v ≡ verdicts.Refused why → Begun g l a d a d v
   unfolding verdict
   begun-refused a d why e =
-      let h : 0 < verdict v = rw e (refused-some why) in
+      let h : 0 < verdict v = rw e (number-some why) in
       record { judged = judged; started = λ z. absurd (omega arith); refused = λ p. (refl, refl) }
 
   module _ (admits : v ≡ verdicts.Admitted) where

@@ -16,7 +16,7 @@ use Rattle.mem_flash.specs.declared.Flow.{Flow}
 use Rattle.mem_flash.specs.declared.Flow.the-variants.{On, Cut}
 use Rattle.mem_flash.specs.Flash.{Area, active, dfu, state, Flash, Op, change, eraseOps}
 use Rattle.mem_flash.specs.Run.{flash, on, ended, run, Ran, placed, InArea, writeOps}
-use Rattle.mem_flash.proofs.Runs.{then-on, then-cut, ran, area-on, area-cut}
+use Rattle.mem_flash.proofs.Runs.{then-on, then-cut, ran, one-more, area-on, area-cut}
 use Rattle.rules.specs.StateArea.{progress, markOp}
 use Rattle.rules.specs.Steps.{Copy, toDfu, toActive, sourceOf, unitOf, chunkOps, fillOps, copyOps, onceOps}
 use Rattle.state_area.specs.Area.{InState}
@@ -25,9 +25,6 @@ use Rattle.state_area.specs.Area.{InState}
 
 module _ (k at from b count i : ℕ) (src xs xs′ : List ℕ) (r : Flow)
     (w : InArea k (writeOps at (take (from + b - from) (drop from src))) xs xs′ r) (h : i < count) where
-  one-more : count - i ≡ suc (count - (i + 1))
-  one-more = omega arith
-
   written : InArea k (writeOps at (take b (drop from src))) xs xs′ r
   written = let e : from + b - from ≡ b = omega arith in rw e at w
 
@@ -36,13 +33,13 @@ module _ (k at from b count i : ℕ) (src xs xs′ : List ℕ) (r : Flow)
       ≡ run (l .0) (chunkOps (count - (i + 1)) a (at + b) (from + b) b src) (placed a xs′ f)
   unfolding chunkOps
   chunk-on l o a f =
-      rw one-more (then-on k (writeOps at (take b (drop from src)) a) _ (placed a xs f) (placed a xs′ f) r (written a f) l o)
+      rw (one-more count i h) (then-on k (writeOps at (take b (drop from src)) a) _ (placed a xs f) (placed a xs′ f) r (written a f) l o)
 
   pub chunk-cut : r ≡ Cut → (a : Area) (f : Flash)
       → run k (chunkOps (count - i) a at from b src) (placed a xs f) ≡ ended (placed a xs′ f) Cut
   unfolding chunkOps
   chunk-cut o a f =
-      rw one-more (then-cut k (writeOps at (take b (drop from src)) a) _ (placed a xs f) (placed a xs′ f) r (written a f) o)
+      rw (one-more count i h) (then-cut k (writeOps at (take b (drop from src)) a) _ (placed a xs f) (placed a xs′ f) r (written a f) o)
 
 pub chunk-end : (k at from b count i : ℕ) (src xs : List ℕ) → count ≤ i → (a : Area) (f : Flash)
     → run k (chunkOps (count - i) a at from b src) (placed a xs f) ≡ ended (placed a xs f) (on k)

@@ -31,7 +31,7 @@ pub erase-none : (at : ℕ) (xs : List ℕ) → erasedAt at 0 xs ≡ xs
 unfolding erasedAt blank
 erase-none = take-append-drop
 
-program-none : (xs : List ℕ) → program xs [] ≡ xs
+pub program-none : (xs : List ℕ) → program xs [] ≡ xs
 unfolding program
 program-none [] = refl
 program-none (x ∷ xs) = refl

@@ -122,22 +122,23 @@ module _ (k : ℕ) (os : Area → List Op) (xs xs₁ : List ℕ) (r : Flow) (w :
 
 -- ---- an erase, unit by unit: a turn, a cut, the end
 
+-- a loop that has turns left has one and then the rest
+pub one-more : (count i : ℕ) → i < count → count - i ≡ suc (count - (i + 1))
+one-more count i h = omega arith
+
 module _ (k at unit end count i : ℕ) (xs xs′ : List ℕ) (r : Flow) (w : InArea k (unitOp at (end - at)) xs xs′ r) (e : end ≡ at + unit)
     (h : i < count) where
-  one-more : count - i ≡ suc (count - (i + 1))
-  one-more = omega arith
-
   one : InArea k (unitOp at unit) xs xs′ r
   one = let z : end - at ≡ unit = omega arith in rw z at w
 
   pub unit-on : (l : Budget) → r ≡ On l → (a : Area) (f : Flash)
       → run k (unitOps (count - i) unit a at) (placed a xs f) ≡ run (l .0) (unitOps (count - (i + 1)) unit a end) (placed a xs′ f)
   unfolding unitOps
-  unit-on l o a f = rw (one-more, e) (then-on k (unitOp at unit a) _ (placed a xs f) (placed a xs′ f) r (one a f) l o)
+  unit-on l o a f = rw (one-more count i h, e) (then-on k (unitOp at unit a) _ (placed a xs f) (placed a xs′ f) r (one a f) l o)
 
   pub unit-cut : r ≡ Cut → (a : Area) (f : Flash) → run k (unitOps (count - i) unit a at) (placed a xs f) ≡ ended (placed a xs′ f) Cut
   unfolding unitOps
-  unit-cut o a f = rw one-more (then-cut k (unitOp at unit a) _ (placed a xs f) (placed a xs′ f) r (one a f) o)
+  unit-cut o a f = rw (one-more count i h) (then-cut k (unitOp at unit a) _ (placed a xs f) (placed a xs′ f) r (one a f) o)
 
 -- no unit is left to erase
 pub units-none : (k count unit at : ℕ) (xs : List ℕ) → count ≡ 0 → InArea k (λ a. unitOps count unit a at) xs xs (on k)

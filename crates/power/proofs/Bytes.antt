@@ -10,7 +10,7 @@ use lib.ListN.{length, take, drop, replicate, length-append, length-take, length
 use lib.Seq.{take-at, drop-at, take-append-le, drop-append-add, take-take, drop-drop, take-add, length-take-le}
 use Rattle.state.specs.Magic.{erased}
 use Rattle.mem_flash.specs.Flash.{programmed, blank, program, erasedAt, writtenAt}
-use Rattle.mem_flash.proofs.Bytes.{programmed-erased}
+use Rattle.mem_flash.proofs.Bytes.{programmed-erased, program-none}
 use Rattle.power.specs.Power.{Bytes}
 
 -- ---- lists of bytes
@@ -76,11 +76,6 @@ erased-add zero n m xs = ap (λ (k : ℕ). erasedAt k m (blank n xs)) (zero-add 
 erased-add (suc from) n m [] =
     ap (erasedAt (suc from + n) m) (erased-nil (suc from) n) ∙ erased-nil (suc from + n) m ∙ sym (erased-nil (suc from) (n + m))
 erased-add (suc from) n m (x ∷ xs) = rw (suc-add from n) (ap (λ (l : List ℕ). x ∷ l) (erased-add from n m xs))
-
-pub program-none : (xs : List ℕ) → program xs [] ≡ xs
-unfolding program
-program-none [] = refl
-program-none (x ∷ xs) = refl
 
 -- bytes programmed onto as many erased ones
 program-erased : (ys zs : List ℕ) → Bytes ys → program (replicate (length ys) erased ++ zs) ys ≡ ys ++ zs

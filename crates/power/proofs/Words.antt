@@ -23,7 +23,8 @@ use Rattle.rules.specs.StateArea.{word, readState, valid, markOpen, mostMarks, 
 use Rattle.rules.specs.Boot.{confirming}
 use Rattle.rules.specs.Power.{magicArea}
 use Rattle.rules.proofs.StateWords.{progress-valid, progress-invalid}
-use Rattle.power.proofs.Bytes.{program-none, blank-is}
+use Rattle.mem_flash.proofs.Bytes.{program-none}
+use Rattle.power.proofs.Bytes.{blank-is}
 
 -- ---- a byte for each word
 

@@ -15,7 +15,7 @@ use Rattle.rules.specs.StateArea.{word, valid, markOpen, mostMarks, firs
 
 -- ---- a mark
 
-pick-true : (b : Bool) → pick b true true ≡ true
+pub pick-true : (b : Bool) → pick b true true ≡ true
 unfolding pick
 pick-true true = refl
 pick-true false = refl

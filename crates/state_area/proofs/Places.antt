@@ -13,6 +13,7 @@ use borrow.Author.Tests.{eq-eqb, ne-eqb}
 use Rattle.state.specs.Choice.{pick}
 use Rattle.state.specs.Magic.{holds}
 use Rattle.state.proofs.Words.{any-end}
+use Rattle.rules.proofs.StateWords.{pick-true}
 use Rattle.state_area.specs.First.{Lacks}
 
 -- ---- a block: the answer so far, or what the rest holds
@@ -36,11 +37,6 @@ pub block-end : (i v : ℕ) (has : Bool) (xs : List ℕ) → length xs ≤ i →
 block-end i v has xs h = sym (rw (any-end i v xs h) (or-false has))
 
 -- ---- a byte that stands somewhere, and one that stands nowhere
-
-pick-true : (b : Bool) → pick b true true ≡ true
-unfolding pick
-pick-true true = refl
-pick-true false = refl
 
 pub holds-at : (v : ℕ) (xs : List ℕ) (k : ℕ) → k < length xs → getD xs k 0 ≡ v → holds v xs ≡ true
 unfolding holds pick
