@@ -13,5 +13,6 @@ fn main() {
     assert!(library.is_file(), "{} isn't there: set EMBASSY_BOOT_LIB to its folder", library.display());
     println!("cargo::rerun-if-changed={}", library.display());
     println!("cargo::rustc-link-search=native={}", folder.display());
-    println!("cargo::rustc-link-lib=static=embassy_boot");
+    // linked where a program is, and not copied into this crate: it may be a Rust library with its own copy of the standard one
+    println!("cargo::rustc-link-lib=static:-bundle=embassy_boot");
 }

@@ -4,7 +4,10 @@
 //! Every call takes a budget of operations, the most writes and erases that it may do; [`FOREVER`] is one that no call uses up.
 #![no_std]
 
-mod boundary;
+#[macro_use]
+mod table;
+
+pub mod boundary;
 
 /// The largest budget. No call on areas that are admitted does so many operations.
 pub const FOREVER: u32 = u32::MAX;
@@ -95,7 +98,7 @@ fn answer(result: u64) -> Answer {
 impl State {
     /// The state that a word of these bytes stands for. No bytes at all read Swap.
     pub fn from_bytes(bytes: &[u8]) -> State {
-        let number = boundary::state_from(bytes);
+        let number = boundary::eb_state_from(bytes);
         state_of(number).unwrap_or_else(|| unreachable!("the library has no state {number}"))
     }
 }
@@ -107,12 +110,12 @@ pub struct BootLoader(pub Geometry);
 impl BootLoader {
     /// Swaps the images if an update is marked, or undoes the swap if it wasn't confirmed. Answers the state read at entry.
     pub fn prepare_boot(self, active: &mut [u8], dfu: &mut [u8], state: &mut [u8], budget: u32) -> Answer {
-        answer(boundary::prepare_boot(active, dfu, state, &self.0, budget))
+        answer(boundary::eb_prepare_boot(active, dfu, state, self.0, budget))
     }
 
     /// The state that the state area holds.
     pub fn read_state(self, state: &[u8]) -> Answer {
-        answer(boundary::read_state(state, self.0.es, self.0.ws))
+        answer(boundary::eb_read_state(state, FirmwareState { es: self.0.es, ws: self.0.ws }))
     }
 }
 
@@ -125,22 +128,22 @@ pub struct FirmwareState {
 
 impl FirmwareState {
     pub fn get_state(self, state: &[u8]) -> Answer {
-        answer(boundary::state_get_state(state, self.es, self.ws))
+        answer(boundary::eb_state_get_state(state, self))
     }
 
     /// The next boot swaps the images.
     pub fn mark_updated(self, state: &mut [u8], budget: u32) -> Answer {
-        answer(boundary::state_mark_updated(state, self.es, self.ws, budget))
+        answer(boundary::eb_state_mark_updated(state, self, budget))
     }
 
     /// The next boot starts the USB update.
     pub fn mark_dfu(self, state: &mut [u8], budget: u32) -> Answer {
-        answer(boundary::state_mark_dfu(state, self.es, self.ws, budget))
+        answer(boundary::eb_state_mark_dfu(state, self, budget))
     }
 
     /// The next boot doesn't undo the swap.
     pub fn mark_booted(self, state: &mut [u8], budget: u32) -> Answer {
-        answer(boundary::state_mark_booted(state, self.es, self.ws, budget))
+        answer(boundary::eb_state_mark_booted(state, self, budget))
     }
 }
 
@@ -171,25 +174,25 @@ impl FirmwareUpdater {
     }
 
     pub fn get_state(&self, dfu: &[u8], state: &[u8]) -> Answer {
-        answer(boundary::updater_get_state(dfu, state, &self.sizes))
+        answer(boundary::eb_updater_get_state(dfu, state, self.sizes))
     }
 
     pub fn mark_updated(&self, dfu: &[u8], state: &mut [u8], budget: u32) -> Answer {
-        answer(boundary::updater_mark_updated(dfu, state, &self.sizes, budget))
+        answer(boundary::eb_updater_mark_updated(dfu, state, self.sizes, budget))
     }
 
     /// Refused while a swap is pending.
     pub fn mark_dfu(&self, dfu: &[u8], state: &mut [u8], budget: u32) -> Answer {
-        answer(boundary::updater_mark_dfu(dfu, state, &self.sizes, budget))
+        answer(boundary::eb_updater_mark_dfu(dfu, state, self.sizes, budget))
     }
 
     pub fn mark_booted(&self, dfu: &[u8], state: &mut [u8], budget: u32) -> Answer {
-        answer(boundary::updater_mark_booted(dfu, state, &self.sizes, budget))
+        answer(boundary::eb_updater_mark_booted(dfu, state, self.sizes, budget))
     }
 
     /// Fills `out` with the bytes of DFU from an offset on.
     pub fn read_dfu(&self, dfu: &[u8], state: &[u8], offset: u32, out: &mut [u8]) -> Answer {
-        answer(boundary::updater_read_dfu(dfu, state, &self.sizes, offset, out))
+        answer(boundary::eb_updater_read_dfu(dfu, state, self.sizes, offset, out))
     }
 
     /// Writes data at an offset of DFU, sector by sector. Refused while a swap is pending.
@@ -201,10 +204,10 @@ impl FirmwareUpdater {
         data: &[u8],
         budget: u32,
     ) -> Answer {
-        answer(boundary::updater_write_firmware(
+        answer(boundary::eb_updater_write_firmware(
             dfu,
             state,
-            &self.sizes,
+            self.sizes,
             offset,
             data,
             &mut self.last,
@@ -214,6 +217,6 @@ impl FirmwareUpdater {
 
     /// Erases all of DFU. Refused while a swap is pending. What was erased last stays remembered, as in the original.
     pub fn prepare_update(&self, dfu: &mut [u8], state: &[u8], budget: u32) -> Answer {
-        answer(boundary::updater_prepare_update(dfu, state, &self.sizes, budget))
+        answer(boundary::eb_updater_prepare_update(dfu, state, self.sizes, budget))
     }
 }

@@ -3,113 +3,8 @@
 use std::cell::RefCell;
 
 use call::{Answers, Call, Kind, Lent};
-
-unsafe extern "C" {
-    fn eb_prepare_boot(
-        active: *mut u8,
-        active_length: usize,
-        dfu: *mut u8,
-        dfu_length: usize,
-        state: *mut u8,
-        state_length: usize,
-        ea: u32,
-        wa: u32,
-        ed: u32,
-        wd: u32,
-        es: u32,
-        ws: u32,
-        b: u32,
-        budget: u32,
-    ) -> u64;
-    fn eb_read_state(state: *const u8, state_length: usize, es: u32, ws: u32) -> u64;
-    fn eb_state_get_state(state: *const u8, state_length: usize, es: u32, ws: u32) -> u64;
-    fn eb_state_mark_updated(state: *mut u8, state_length: usize, es: u32, ws: u32, budget: u32) -> u64;
-    fn eb_state_mark_dfu(state: *mut u8, state_length: usize, es: u32, ws: u32, budget: u32) -> u64;
-    fn eb_state_mark_booted(state: *mut u8, state_length: usize, es: u32, ws: u32, budget: u32) -> u64;
-    fn eb_updater_get_state(
-        dfu: *const u8,
-        dfu_length: usize,
-        state: *const u8,
-        state_length: usize,
-        ed: u32,
-        wd: u32,
-        es: u32,
-        ws: u32,
-    ) -> u64;
-    fn eb_updater_mark_updated(
-        dfu: *const u8,
-        dfu_length: usize,
-        state: *mut u8,
-        state_length: usize,
-        ed: u32,
-        wd: u32,
-        es: u32,
-        ws: u32,
-        budget: u32,
-    ) -> u64;
-    fn eb_updater_mark_dfu(
-        dfu: *const u8,
-        dfu_length: usize,
-        state: *mut u8,
-        state_length: usize,
-        ed: u32,
-        wd: u32,
-        es: u32,
-        ws: u32,
-        budget: u32,
-    ) -> u64;
-    fn eb_updater_mark_booted(
-        dfu: *const u8,
-        dfu_length: usize,
-        state: *mut u8,
-        state_length: usize,
-        ed: u32,
-        wd: u32,
-        es: u32,
-        ws: u32,
-        budget: u32,
-    ) -> u64;
-    fn eb_updater_read_dfu(
-        dfu: *const u8,
-        dfu_length: usize,
-        state: *const u8,
-        state_length: usize,
-        ed: u32,
-        wd: u32,
-        es: u32,
-        ws: u32,
-        offset: u32,
-        out: *mut u8,
-        out_length: usize,
-    ) -> u64;
-    fn eb_updater_write_firmware(
-        dfu: *mut u8,
-        dfu_length: usize,
-        state: *const u8,
-        state_length: usize,
-        ed: u32,
-        wd: u32,
-        es: u32,
-        ws: u32,
-        offset: u64,
-        data: *const u8,
-        data_length: usize,
-        last: *mut u32,
-        budget: u32,
-    ) -> u64;
-    fn eb_updater_prepare_update(
-        dfu: *mut u8,
-        dfu_length: usize,
-        state: *const u8,
-        state_length: usize,
-        ed: u32,
-        wd: u32,
-        es: u32,
-        ws: u32,
-        budget: u32,
-    ) -> u64;
-    fn eb_state_from(bytes: *const u8, length: usize) -> u32;
-}
+use embassy_boot_rattle::boundary::*;
+use embassy_boot_rattle::{FirmwareState, Geometry, Sizes};
 
 /// Bytes before and after each slice that no call may touch.
 const GUARD: usize = 16;
@@ -162,43 +57,31 @@ pub struct Library;
 
 impl Answers for Library {
     fn answer(&self, call: &Call, lent: Lent) -> u64 {
-        let g = &call.geometry;
-        let k = call.budget;
-        let (active, la) = (lent.active.as_mut_ptr(), lent.active.len());
-        let (dfu, ld) = (lent.dfu.as_mut_ptr(), lent.dfu.len());
-        let (state, ls) = (lent.state.as_mut_ptr(), lent.state.len());
-        let (out, lo) = (lent.out.as_mut_ptr(), lent.out.len());
-        let (data, length) = (call.data.as_ptr(), call.data.len());
-        let (ed, wd, es, ws) = (g.ed, g.wd, g.es, g.ws);
-        // Sound: every pointer goes with its slice's length, and no two of the slices overlap.
-        unsafe {
-            match call.kind {
-                Kind::PrepareBoot => {
-                    eb_prepare_boot(active, la, dfu, ld, state, ls, g.ea, g.wa, ed, wd, es, ws, g.b, k)
-                }
-                Kind::ReadState => eb_read_state(state, ls, es, ws),
-                Kind::StateGetState => eb_state_get_state(state, ls, es, ws),
-                Kind::StateMarkUpdated => eb_state_mark_updated(state, ls, es, ws, k),
-                Kind::StateMarkDfu => eb_state_mark_dfu(state, ls, es, ws, k),
-                Kind::StateMarkBooted => eb_state_mark_booted(state, ls, es, ws, k),
-                Kind::UpdaterGetState => eb_updater_get_state(dfu, ld, state, ls, ed, wd, es, ws),
-                Kind::UpdaterMarkUpdated => eb_updater_mark_updated(dfu, ld, state, ls, ed, wd, es, ws, k),
-                Kind::UpdaterMarkDfu => eb_updater_mark_dfu(dfu, ld, state, ls, ed, wd, es, ws, k),
-                Kind::UpdaterMarkBooted => eb_updater_mark_booted(dfu, ld, state, ls, ed, wd, es, ws, k),
-                Kind::ReadDfu => {
-                    // the boundary's offset is a u32; no other is asked
-                    let offset = u32::try_from(call.offset).expect("an offset of read_dfu");
-                    eb_updater_read_dfu(dfu, ld, state, ls, ed, wd, es, ws, offset, out, lo)
-                }
-                Kind::WriteFirmware => {
-                    let (offset, last): (u64, *mut u32) = (call.offset, lent.last);
-                    eb_updater_write_firmware(
-                        dfu, ld, state, ls, ed, wd, es, ws, offset, data, length, last, k,
-                    )
-                }
-                Kind::PrepareUpdate => eb_updater_prepare_update(dfu, ld, state, ls, ed, wd, es, ws, k),
-                Kind::StateFrom => u64::from(eb_state_from(data, length)),
+        let call::Geometry { ea, wa, ed, wd, es, ws, b } = call.geometry;
+        let all = Geometry { ea, wa, ed, wd, es, ws, b };
+        let firmware = FirmwareState { es, ws };
+        let sizes = Sizes { ed, wd, es, ws };
+        let Lent { active, dfu, state, out, last } = lent;
+        let Call { budget, offset, data, .. } = *call;
+        match call.kind {
+            Kind::PrepareBoot => eb_prepare_boot(active, dfu, state, all, budget),
+            Kind::ReadState => eb_read_state(state, firmware),
+            Kind::StateGetState => eb_state_get_state(state, firmware),
+            Kind::StateMarkUpdated => eb_state_mark_updated(state, firmware, budget),
+            Kind::StateMarkDfu => eb_state_mark_dfu(state, firmware, budget),
+            Kind::StateMarkBooted => eb_state_mark_booted(state, firmware, budget),
+            Kind::UpdaterGetState => eb_updater_get_state(dfu, state, sizes),
+            Kind::UpdaterMarkUpdated => eb_updater_mark_updated(dfu, state, sizes, budget),
+            Kind::UpdaterMarkDfu => eb_updater_mark_dfu(dfu, state, sizes, budget),
+            Kind::UpdaterMarkBooted => eb_updater_mark_booted(dfu, state, sizes, budget),
+            Kind::ReadDfu => {
+                // the boundary's offset is a u32; no other is asked
+                let offset = u32::try_from(offset).expect("an offset of read_dfu");
+                eb_updater_read_dfu(dfu, state, sizes, offset, out)
             }
+            Kind::WriteFirmware => eb_updater_write_firmware(dfu, state, sizes, offset, data, last, budget),
+            Kind::PrepareUpdate => eb_updater_prepare_update(dfu, state, sizes, budget),
+            Kind::StateFrom => u64::from(eb_state_from(data)),
         }
     }
 }

@@ -8,6 +8,12 @@ use std::sync::OnceLock;
 use call::{Answers, Call, Geometry, Kind, Lent, NO_SECTOR};
 use model::{Model, Wrong};
 
+// the wrapper's table itself, so that what is exported here is what is declared there; the wrapper can't be a
+// dependency, for it links what is made here
+#[macro_use]
+#[path = "../../../rust/src/table.rs"]
+mod table;
+
 fn model() -> &'static Model {
     static MODEL: OnceLock<Model> = OnceLock::new();
     MODEL.get_or_init(|| {
@@ -19,240 +25,102 @@ fn model() -> &'static Model {
     })
 }
 
-/// # Safety
-/// As for a slice: `at` points to `length` bytes that live long enough.
-unsafe fn bytes<'a>(at: *const u8, length: usize) -> &'a [u8] {
-    if length == 0 { &[] } else { unsafe { slice::from_raw_parts(at, length) } }
+/// Bytes that came over the boundary.
+enum Bytes<'a> {
+    /// to be read only; the model is lent a copy
+    Copied(Vec<u8>),
+    Lent(&'a mut [u8]),
 }
 
-/// # Safety
-/// As for a mutable slice: `at` points to `length` bytes that live long enough and aren't shared.
-unsafe fn bytes_mut<'a>(at: *mut u8, length: usize) -> &'a mut [u8] {
-    if length == 0 { &mut [] } else { unsafe { slice::from_raw_parts_mut(at, length) } }
-}
+impl Bytes<'_> {
+    /// # Safety
+    /// As for a slice: `at` points to `length` bytes.
+    unsafe fn copied(at: *const u8, length: usize) -> Self {
+        Bytes::Copied(if length == 0 {
+            Vec::new()
+        } else {
+            unsafe { slice::from_raw_parts(at, length) }.to_vec()
+        })
+    }
 
-fn answer(
-    kind: Kind,
-    geometry: Geometry,
-    budget: u32,
-    active: &mut [u8],
-    dfu: &mut [u8],
-    state: &mut [u8],
-) -> u64 {
-    let call = Call { kind, geometry, budget, offset: 0, data: &[] };
-    model().answer(&call, Lent { active, dfu, state, out: &mut [], last: &mut NO_SECTOR.clone() })
-}
+    /// # Safety
+    /// As for a mutable slice: `at` points to `length` bytes that live long enough and aren't shared.
+    unsafe fn lent(at: *mut u8, length: usize) -> Self {
+        Bytes::Lent(if length == 0 { &mut [] } else { unsafe { slice::from_raw_parts_mut(at, length) } })
+    }
 
-fn state_numbers(es: u32, ws: u32) -> Geometry {
-    Geometry { es, ws, ..Geometry::default() }
-}
-
-fn updater_numbers(ed: u32, wd: u32, es: u32, ws: u32) -> Geometry {
-    Geometry { ed, wd, es, ws, ..Geometry::default() }
-}
-
-/// # Safety
-/// Each pointer with its length is a slice.
-#[unsafe(no_mangle)]
-pub unsafe extern "C" fn eb_prepare_boot(
-    active: *mut u8,
-    active_length: usize,
-    dfu: *mut u8,
-    dfu_length: usize,
-    state: *mut u8,
-    state_length: usize,
-    ea: u32,
-    wa: u32,
-    ed: u32,
-    wd: u32,
-    es: u32,
-    ws: u32,
-    b: u32,
-    budget: u32,
-) -> u64 {
-    let geometry = Geometry { ea, wa, ed, wd, es, ws, b };
-    unsafe {
-        answer(
-            Kind::PrepareBoot,
-            geometry,
-            budget,
-            bytes_mut(active, active_length),
-            bytes_mut(dfu, dfu_length),
-            bytes_mut(state, state_length),
-        )
+    fn lend(&mut self) -> &mut [u8] {
+        match self {
+            Bytes::Copied(bytes) => bytes,
+            Bytes::Lent(bytes) => bytes,
+        }
     }
 }
 
-macro_rules! state_readers {
-    ($($name:ident $kind:ident;)*) => {$(
-        /// # Safety
-        /// Each pointer with its length is a slice.
-        #[unsafe(no_mangle)]
-        pub unsafe extern "C" fn $name(state: *const u8, state_length: usize, es: u32, ws: u32) -> u64 {
-            let mut copy = unsafe { bytes(state, state_length) }.to_vec();
-            answer(Kind::$kind, state_numbers(es, ws), 0, &mut [], &mut [], &mut copy)
-        }
-    )*};
+impl Default for Bytes<'_> {
+    fn default() -> Self {
+        Bytes::Copied(Vec::new())
+    }
 }
 
-state_readers! {
-    eb_read_state ReadState;
-    eb_state_get_state StateGetState;
-}
-
-macro_rules! state_marks {
-    ($($name:ident $kind:ident;)*) => {$(
-        /// # Safety
-        /// Each pointer with its length is a slice.
-        #[unsafe(no_mangle)]
-        pub unsafe extern "C" fn $name(
-            state: *mut u8,
-            state_length: usize,
-            es: u32,
-            ws: u32,
-            budget: u32,
-        ) -> u64 {
-            let state = unsafe { bytes_mut(state, state_length) };
-            answer(Kind::$kind, state_numbers(es, ws), budget, &mut [], &mut [], state)
-        }
-    )*};
-}
-
-state_marks! {
-    eb_state_mark_updated StateMarkUpdated;
-    eb_state_mark_dfu StateMarkDfu;
-    eb_state_mark_booted StateMarkBooted;
-}
-
-/// # Safety
-/// Each pointer with its length is a slice.
-#[unsafe(no_mangle)]
-pub unsafe extern "C" fn eb_updater_get_state(
-    dfu: *const u8,
-    dfu_length: usize,
-    state: *const u8,
-    state_length: usize,
-    ed: u32,
-    wd: u32,
-    es: u32,
-    ws: u32,
-) -> u64 {
-    let (mut dfu, mut state) =
-        unsafe { (bytes(dfu, dfu_length).to_vec(), bytes(state, state_length).to_vec()) };
-    answer(Kind::UpdaterGetState, updater_numbers(ed, wd, es, ws), 0, &mut [], &mut dfu, &mut state)
-}
-
-macro_rules! updater_marks {
-    ($($name:ident $kind:ident;)*) => {$(
-        /// # Safety
-        /// Each pointer with its length is a slice.
-        #[unsafe(no_mangle)]
-        pub unsafe extern "C" fn $name(
-            dfu: *const u8,
-            dfu_length: usize,
-            state: *mut u8,
-            state_length: usize,
-            ed: u32,
-            wd: u32,
-            es: u32,
-            ws: u32,
-            budget: u32,
-        ) -> u64 {
-            let mut dfu = unsafe { bytes(dfu, dfu_length) }.to_vec();
-            let state = unsafe { bytes_mut(state, state_length) };
-            answer(Kind::$kind, updater_numbers(ed, wd, es, ws), budget, &mut [], &mut dfu, state)
-        }
-    )*};
-}
-
-updater_marks! {
-    eb_updater_mark_updated UpdaterMarkUpdated;
-    eb_updater_mark_dfu UpdaterMarkDfu;
-    eb_updater_mark_booted UpdaterMarkBooted;
-}
-
-/// # Safety
-/// Each pointer with its length is a slice.
-#[unsafe(no_mangle)]
-pub unsafe extern "C" fn eb_updater_read_dfu(
-    dfu: *const u8,
-    dfu_length: usize,
-    state: *const u8,
-    state_length: usize,
-    ed: u32,
-    wd: u32,
-    es: u32,
-    ws: u32,
-    offset: u32,
-    out: *mut u8,
-    out_length: usize,
-) -> u64 {
-    let (mut dfu, mut state) =
-        unsafe { (bytes(dfu, dfu_length).to_vec(), bytes(state, state_length).to_vec()) };
-    let call = Call {
-        kind: Kind::ReadDfu,
-        geometry: updater_numbers(ed, wd, es, ws),
-        budget: 0,
-        offset: offset.into(),
-        data: &[],
-    };
-    let out = unsafe { bytes_mut(out, out_length) };
-    let last = &mut NO_SECTOR.clone();
-    model().answer(&call, Lent { active: &mut [], dfu: &mut dfu, state: &mut state, out, last })
-}
-
-/// # Safety
-/// Each pointer with its length is a slice, `last` points to a number.
-#[unsafe(no_mangle)]
-pub unsafe extern "C" fn eb_updater_write_firmware(
-    dfu: *mut u8,
-    dfu_length: usize,
-    state: *const u8,
-    state_length: usize,
-    ed: u32,
-    wd: u32,
-    es: u32,
-    ws: u32,
+/// All that a call may bring, under the names of the boundary's parameters; what it doesn't bring is empty or 0.
+#[derive(Default)]
+struct Brought<'a> {
+    active: Bytes<'a>,
+    dfu: Bytes<'a>,
+    state: Bytes<'a>,
+    sizes: Geometry,
     offset: u64,
-    data: *const u8,
-    data_length: usize,
-    last: *mut u32,
+    out: Bytes<'a>,
+    data: Bytes<'a>,
+    last: Option<&'a mut u32>,
     budget: u32,
-) -> u64 {
-    let mut state = unsafe { bytes(state, state_length) }.to_vec();
-    let geometry = updater_numbers(ed, wd, es, ws);
-    let data = unsafe { bytes(data, data_length) };
-    let call = Call { kind: Kind::WriteFirmware, geometry, budget, offset, data };
-    let (dfu, last) = unsafe { (bytes_mut(dfu, dfu_length), &mut *last) };
-    model().answer(&call, Lent { active: &mut [], dfu, state: &mut state, out: &mut [], last })
+    /// in the data's place
+    bytes: Bytes<'a>,
 }
 
-/// # Safety
-/// Each pointer with its length is a slice.
-#[unsafe(no_mangle)]
-pub unsafe extern "C" fn eb_updater_prepare_update(
-    dfu: *mut u8,
-    dfu_length: usize,
-    state: *const u8,
-    state_length: usize,
-    ed: u32,
-    wd: u32,
-    es: u32,
-    ws: u32,
-    budget: u32,
-) -> u64 {
-    let mut state = unsafe { bytes(state, state_length) }.to_vec();
-    let dfu = unsafe { bytes_mut(dfu, dfu_length) };
-    answer(Kind::PrepareUpdate, updater_numbers(ed, wd, es, ws), budget, &mut [], dfu, &mut state)
+impl Brought<'_> {
+    /// The model's answer to the call of this name.
+    fn answer(mut self, name: &str) -> u64 {
+        let kind = *Kind::ALL.iter().find(|kind| kind.name() == name).expect("a call of this name");
+        let data = if kind == Kind::StateFrom { self.bytes.lend() } else { self.data.lend() };
+        let call = Call { kind, geometry: self.sizes, budget: self.budget, offset: self.offset, data };
+        let mut none = NO_SECTOR;
+        let lent = Lent {
+            active: self.active.lend(),
+            dfu: self.dfu.lend(),
+            state: self.state.lend(),
+            out: self.out.lend(),
+            last: self.last.unwrap_or(&mut none),
+        };
+        model().answer(&call, lent)
+    }
 }
 
-/// # Safety
-/// The pointer with its length is a slice.
-#[unsafe(no_mangle)]
-pub unsafe extern "C" fn eb_state_from(from: *const u8, length: usize) -> u32 {
-    let data = unsafe { bytes(from, length) };
-    let call = Call { kind: Kind::StateFrom, geometry: Geometry::default(), budget: 0, offset: 0, data };
-    let last = &mut NO_SECTOR.clone();
-    let none = Lent { active: &mut [], dfu: &mut [], state: &mut [], out: &mut [], last };
-    model().answer(&call, none) as u32
+/// A function of the table, exported: what each parameter brings goes to the place of its name.
+macro_rules! export {
+    ($name:ident($($p:ident
+        $(: &[$r:ident; $r_length:ident])? $(: &mut [$c:ident; $c_length:ident])? $(: &mut $m:ident)? $(: $n:ident)?
+        $({ $($size:ident),* })?
+    ),*) -> $result:ident) => {
+        /// # Safety
+        /// Each pointer with its length is a slice, a pointer without one points to a number.
+        #[unsafe(no_mangle)]
+        pub unsafe extern "C" fn $name($(
+            $($p: *const $r, $r_length: usize)? $($p: *mut $c, $c_length: usize)? $($p: *mut $m)? $($p: $n)?
+            $($($size: u32),*)?
+        ),*) -> $result {
+            let mut brought = Brought::default();
+            $(
+                $(brought.$p = unsafe { Bytes::copied($p, $r_length) };)?
+                $(brought.$p = unsafe { Bytes::lent($p, $c_length) };)?
+                $(brought.$p = Some(unsafe { &mut *($p as *mut $m) });)?
+                $(brought.$p = <$n>::into($p);)?
+                $($(brought.sizes.$size = $size;)*)?
+            )*
+            brought.answer(stringify!($name)) as $result
+        }
+    };
 }
+
+boundary!(export);
