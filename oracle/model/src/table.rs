@@ -169,8 +169,9 @@ mod tests {
     #[test]
     fn the_paper_s_examples() {
         assert_eq!(boot(SHEET, LENGTHS), 0);
-        assert_eq!(boot(Geometry { es: 14, ..SHEET }, Lengths { state: 14, ..LENGTHS }), 0);
-        assert_eq!(boot(Geometry { es: 13, ..SHEET }, Lengths { state: 13, ..LENGTHS }), 4);
+        // one word more than in the paper: request No. 3
+        assert_eq!(boot(Geometry { es: 15, ..SHEET }, Lengths { state: 15, ..LENGTHS }), 0);
+        assert_eq!(boot(Geometry { es: 14, ..SHEET }, Lengths { state: 14, ..LENGTHS }), 4);
         let empty = Lengths { active: 0, dfu: 4, state: 3, out: 0 };
         assert_eq!(boot(Geometry { es: 3, ..SHEET }, empty), 0);
         assert_eq!(boot(Geometry { es: 2, ..SHEET }, Lengths { state: 2, ..empty }), 4);
