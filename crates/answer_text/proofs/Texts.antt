@@ -14,7 +14,8 @@ use Rattle.io.specs.Counts.{Counts}
 use Rattle.io.specs.Digits.{glyph, digits, Fewest}
 use Rattle.rules.specs.Calls.{Report}
 use Rattle.lines.specs.declared.Command.{Command}
-use Rattle.lines.specs.Text.{lineFeed, space}
+use Rattle.numerals.specs.Text.{space}
+use Rattle.lines.specs.Lines.{lineFeed}
 use Rattle.lines.specs.Grammar.{nameOf}
 use Rattle.answer_text.specs.Answers.{stateText, Answered, badLine, BadLine, hexOf, Hex, Put, PutNumber}
 

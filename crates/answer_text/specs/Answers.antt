@@ -9,7 +9,8 @@ use Rattle.state.specs.declared.State.{State}
 use Rattle.state.specs.declared.State.the-variants.{Boot, Swap, Revert, DfuDetach}
 use Rattle.rules.specs.Calls.{Report}
 use Rattle.lines.specs.declared.Command.{Command}
-use Rattle.lines.specs.Text.{lineFeed, space}
+use Rattle.numerals.specs.Text.{space}
+use Rattle.lines.specs.Lines.{lineFeed}
 use Rattle.lines.specs.Grammar.{nameOf}
 
 -- n in decimal, with no more digits than it has

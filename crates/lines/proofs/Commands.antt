@@ -7,16 +7,16 @@ use Prim.Native.Nat.{ℕ}
 use native.Mathlib.Omega.{arith}
 use lib.ListN.{length, getD}
 use Rattle.state.specs.Choice.{pick}
+use Rattle.numerals.specs.Text.{space, first, split, number, more, numbers, exactly}
+use Rattle.numerals.proofs.Splits.{split-last}
+use Rattle.numerals.proofs.Decimal.{number-written, written-number}
+use Rattle.numerals.proofs.Grammar.{split-at, join, joined, more-by, exactly-some, written-plain}
 use Rattle.lines.specs.declared.Command.{Command}
 use Rattle.lines.specs.declared.Command.the-variants.{Update, Booted, Boot}
 use Rattle.lines.specs.declared.CommandLine.the-variants as command-line
-use Rattle.lines.specs.Text.{space, first, split, number, more, numbers, exactly, alike}
-use Rattle.lines.specs.Lines.{update, booted, boot, named, ordered, commandOf, commandLine}
+use Rattle.lines.specs.Lines.{alike, update, booted, boot, named, ordered, commandOf, commandLine}
 use Rattle.lines.specs.Grammar.{nameOf, numberOf, Ordered}
-use Rattle.lines.proofs.Splits.{split-last}
 use Rattle.lines.proofs.Said.{alike-are}
-use Rattle.lines.proofs.Decimal.{number-written, written-number}
-use Rattle.lines.proofs.Grammar.{split-at, join, joined, more-by, exactly-some, written-plain}
 
 named-by : (s t u : Bool) (w : List ℕ) (k : ℕ) (c : Command) → alike w update ≡ s → alike w booted ≡ t → alike w boot ≡ u
     → pick s (command-line.Command (Update k)) (pick t (command-line.Command (Booted k)) (pick u (command-line.Command (Boot k)) command-line.Other)) ≡ command-line.Command c

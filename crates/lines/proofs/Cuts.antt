@@ -7,12 +7,12 @@ use native.Mathlib.Omega.{arith}
 use lib.Dec.{eqb}
 use lib.ListN.{length}
 use Rattle.state.specs.Choice.{pick}
-use Rattle.lines.specs.Text.{lineFeed, grown, split, first}
-use Rattle.lines.specs.Lines.{closed, lines}
+use Rattle.numerals.specs.Text.{grown, split, first}
+use Rattle.numerals.proofs.Splits.{split-last}
+use Rattle.numerals.proofs.Grammar.{split-at, join, joined}
+use Rattle.lines.specs.Lines.{lineFeed, closed, lines}
 use Rattle.lines.specs.Grammar.{Plain, Cut}
 use Rattle.lines.specs.Grammar as grammar
-use Rattle.lines.proofs.Splits.{split-last}
-use Rattle.lines.proofs.Grammar.{split-at, join, joined}
 
 -- ---- the input as written
 

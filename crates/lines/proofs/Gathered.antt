@@ -9,11 +9,11 @@ use lib.ListN.{length, drop, getD, set, length-drop, length-set}
 use lib.Seq.{paste, paste-zero, paste-suc, getD-drop}
 use borrow.Author.Tests.{le-leb, lt-leb, lt-ltb, le-ltb, leb-true, leb-false, ltb-true, ltb-false}
 use Rattle.state.specs.Choice.{pick}
+use Rattle.numerals.specs.Text.{first}
+use Rattle.numerals.proofs.Splits.{first-here, first-turn, first-end}
 use Rattle.lines.specs.declared.Taken.{Taken}
 use Rattle.lines.specs.declared.Taken.the-variants.{Line, Part, Long}
-use Rattle.lines.specs.Text.{lineFeed, first}
-use Rattle.lines.specs.Lines.{takenAt, heldThen}
-use Rattle.lines.proofs.Splits.{first-here, first-turn, first-end}
+use Rattle.lines.specs.Lines.{lineFeed, takenAt, heldThen}
 
 -- the bytes of the piece from `at` to i are taken, m are held, and none of them is a line feed
 pub record Gathering (before piece held : List ℕ) (n at m i : ℕ) : Type 0 where

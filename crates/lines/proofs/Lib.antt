@@ -1,10 +1,5 @@
-pub mod Splits
-pub mod Numbers
-pub mod Rows
 pub mod Said
 pub mod Gathered
-pub mod Decimal
-pub mod Grammar
 pub mod Commands
 pub mod Cuts
 pub mod Pieces

@@ -10,11 +10,11 @@ use lib.ListN.{length, take, drop, getD, length-append, length-drop}
 use lib.Seq.{split-at as parts-at, take-paste, take-length, drop-drop, length-take-le}
 use borrow.Author.Tests.{eqb-true}
 use Rattle.state.specs.Choice.{pick}
+use Rattle.numerals.specs.Text.{first}
+use Rattle.numerals.proofs.Splits.{first-le}
 use Rattle.lines.specs.declared.Taken.{Taken}
-use Rattle.lines.specs.Text.{lineFeed, first}
-use Rattle.lines.specs.Lines.{lines, takenAt, heldThen}
+use Rattle.lines.specs.Lines.{lineFeed, lines, takenAt, heldThen}
 use Rattle.lines.specs.Grammar.{Plain, Says}
-use Rattle.lines.proofs.Splits.{first-le}
 use Rattle.lines.proofs.Cuts.{lines-next}
 use Rattle.lines.proofs.Gathered.{Told, line, part, long, told}
 

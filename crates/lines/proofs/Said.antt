@@ -11,10 +11,10 @@ use lib.ListN.{length, take, drop, getD, length-drop}
 use lib.Seq.{take-all}
 use borrow.Author.Tests.{eq-eqb, eqb-true, le-leb, lt-leb}
 use Rattle.state.specs.Choice.{pick}
+use Rattle.numerals.specs.Text.{space, first, numbers, exactly, row, rowOf}
+use Rattle.numerals.proofs.Splits.{first-le, split-last, split-next}
 use Rattle.lines.specs.declared.CommandLine.the-variants.{Other}
-use Rattle.lines.specs.Text.{space, first, numbers, exactly, row, alike}
-use Rattle.lines.specs.Lines.{rowOf, short, mostLength, ordered, commandOf, commandLine}
-use Rattle.lines.proofs.Splits.{first-le, split-last, split-next}
+use Rattle.lines.specs.Lines.{alike, short, mostLength, ordered, commandOf, commandLine}
 
 -- ---- a row, by the code's answer
 

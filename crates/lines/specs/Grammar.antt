@@ -1,31 +1,16 @@
--- The same lines said another way, by how one writes them, without cutting: `Grammar` in proofs/ shows that the two agree. Assumes nothing.
+-- The same lines said another way, by how one writes them, without cutting: `Commands`, `Cuts` and `Pieces` in proofs/ show that the two
+-- agree. Assumes nothing.
 use mathlib.Core.Path.{_≡_}
 use mathlib.Core.List.{List, [], _∷_, _++_}
-use Prim.Native.Nat.{ℕ, zero, suc, _+_, _/_, _%_, _^_, _≤_, _<_}
+use Prim.Native.Nat.{ℕ, _<_}
 use lib.ListN.{length, take, drop}
+use Rattle.numerals.specs.Text.{space, first}
+use Rattle.numerals.specs.Grammar.{Written}
 use Rattle.lines.specs.declared.Command.{Command}
 use Rattle.lines.specs.declared.Command.the-variants.{Update, Booted, Boot}
 use Rattle.lines.specs.declared.Taken.{Taken}
 use Rattle.lines.specs.declared.Taken.the-variants.{Line, Part, Long}
-use Rattle.lines.specs.Text.{lineFeed, space, first, mostNumber}
-use Rattle.lines.specs.Lines.{lines, heldThen, update, booted, boot}
-
--- the last k decimal digits of n, the highest first
-unfoldable pub spelled : ℕ → ℕ → List ℕ
-spelled zero n = []
-spelled (suc k) n = spelled k (n / 10) ++ ((48 + n % 10) ∷ [])
-
--- w is n in decimal, with as many leading zeros as one likes
-pub record Written (w : List ℕ) (n : ℕ) : Type 0 where
-  pub some : 0 < length w
-  pub most : n ≤ mostNumber
-  pub fits : n < 10 ^ length w
-  pub text : w ≡ spelled (length w) n
-
--- numbers with single spaces between
-pub data Row : List ℕ → List ℕ → Type 0 where
-  one : {w : List ℕ} {n : ℕ} → Written w n → Row w (n ∷ [])
-  next : {w l ns : List ℕ} {n : ℕ} → Written w n → Row l ns → Row (w ++ (space ∷ l)) (n ∷ ns)
+use Rattle.lines.specs.Lines.{lineFeed, lines, heldThen, update, booted, boot}
 
 -- a command's name, a space and its number
 abbrev pub nameOf : Command → List ℕ

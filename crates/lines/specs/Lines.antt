@@ -3,12 +3,11 @@ use mathlib.Core.Bool.{Bool, true, false}
 use mathlib.Core.List.{List, [], _∷_}
 use mathlib.Core.Option.{Option, none, some}
 use Prim.Native.Nat.{ℕ, _+_, _-_, min}
-use lib.Dec.{leb, ltb}
+use lib.Dec.{leb, ltb, eqb}
 use lib.ListN.{length, getD, drop}
 use lib.Seq.{paste}
 use Rattle.state.specs.Choice.{pick}
-use Rattle.lines.specs.declared.number.Numeral.{Numeral}
-use Rattle.lines.specs.declared.number.Numeral.the-variants.{Is, Not}
+use Rattle.numerals.specs.Text.{space, first, split, numbers, exactly, row}
 use Rattle.lines.specs.declared.SizesLine.{SizesLine}
 use Rattle.lines.specs.declared.LengthsLine.{LengthsLine}
 use Rattle.lines.specs.declared.LengthsLine.the-variants as lengths-line
@@ -18,9 +17,12 @@ use Rattle.lines.specs.declared.CommandLine.{CommandLine}
 use Rattle.lines.specs.declared.CommandLine.the-variants as command-line
 use Rattle.lines.specs.declared.Taken.{Taken}
 use Rattle.lines.specs.declared.Taken.the-variants.{Line, Part, Long}
-use Rattle.lines.specs.Text.{lineFeed, space, first, split, numbers, exactly, row, alike}
 
 -- ---- cutting the input into lines
+
+-- what ends a line
+abbrev pub lineFeed : ℕ
+lineFeed = 10
 
 -- after a last line feed there is no further line
 unfoldable pub closed : List (List ℕ) → List (List ℕ)
@@ -52,16 +54,6 @@ unfoldable pub heldThen : ℕ → List ℕ → ℕ → List ℕ → ℕ → List
 heldThen most held n piece at = paste held n (drop at piece) (min (first lineFeed (drop at piece)) (most - n))
 
 -- ---- what a line says
-
--- a word, as the code answers it
-unfoldable pub numeralOf : Numeral → Option ℕ
-numeralOf (Is n) = some n
-numeralOf Not = none
-
--- a row of numbers, as the code answers it: whether it is one, and the numbers
-unfoldable pub rowOf : Bool → List ℕ → Option (List ℕ)
-rowOf true ns = some ns
-rowOf false ns = none
 
 -- the first line: Ea Wa Ed Wd Es Ws b
 unfoldable pub sizesOf : Option (List ℕ) → SizesLine
@@ -99,6 +91,13 @@ lengthsOf (some ns) =
 
 unfoldable pub lengthsLine : List ℕ → LengthsLine
 lengthsLine line = lengthsOf (row 3 line)
+
+-- two words are the same
+unfoldable pub alike : List ℕ → List ℕ → Bool
+alike [] [] = true
+alike [] (y ∷ ys) = false
+alike (x ∷ xs) [] = false
+alike (x ∷ xs) (y ∷ ys) = pick (eqb x y) (alike xs ys) false
 
 -- the names of the commands
 abbrev pub update : List ℕ

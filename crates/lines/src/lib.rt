@@ -1,14 +1,12 @@
 // The lines of the bench program's input: cutting the input into them, and what each kind of line says. The rules are in
-// specs/Text and specs/Lines; every function here answers just what they say, so nothing that they allow is refused, and nothing
-// else is taken.
+// specs/Lines, over the numbers of `numerals`; every function here answers just what they say, so nothing that they allow is refused,
+// and nothing else is taken.
 ghost use mathlib.Core.Path.{_≡_};
 ghost use lib.ListN.{length};
 ghost use Rattle.lines.specs.Lines.{sizesLine, lengthsLine, commandLine, mostBytes, takenAt, heldThen};
 ghost use Rattle.lines.specs.Lines.{named as Lines·named};
 use geometry::Geometry;
-use number::SPACE;
-
-mod number;
+use numerals::SPACE;
 
 // The first line.
 pub enum SizesLine {
@@ -92,7 +90,7 @@ pub fn read_sizes(line: &[u8]) -> SizesLine
     ensures { λ r. ⌜ r ≡ sizesLine (now (line .entry)) ⌝ }
 {
     let mut n = [0u32; 7];
-    if !number::row(line, &mut n) {
+    if !numerals::row(line, &mut n) {
         return SizesLine::Other;
     }
     SizesLine::Sizes(Geometry {
@@ -111,7 +109,7 @@ pub fn read_lengths(line: &[u8]) -> LengthsLine
     ensures { λ r. ⌜ r ≡ lengthsLine (now (line .entry)) ⌝ }
 {
     let mut n = [0u32; 3];
-    if !number::row(line, &mut n) {
+    if !numerals::row(line, &mut n) {
         return LengthsLine::Other;
     }
     if n[0] > 16384 {
@@ -124,23 +122,29 @@ pub fn read_lengths(line: &[u8]) -> LengthsLine
         return LengthsLine::Other;
     }
     LengthsLine::Lengths(Lengths {
-        active: number::size(n[0]),
-        dfu: number::size(n[1]),
-        state: number::size(n[2]),
+        active: size(n[0]),
+        dfu: size(n[1]),
+        state: size(n[2]),
     })
+}
+
+fn size(x: u32) -> usize
+    ensures { λ r. ⌜ r ≡ x ⌝ }
+{
+    x as usize
 }
 
 // A name and a number.
 pub fn read_command(line: &[u8]) -> CommandLine
     ensures { λ r. ⌜ r ≡ commandLine (now (line .entry)) ⌝ }
 {
-    let e = number::find(line, 0, SPACE);
+    let e = numerals::find(line, 0, SPACE);
     if e >= line.len() {
         return CommandLine::Other;
     }
     let rest = e + 1;
     let mut k = [0u32; 1];
-    if !number::row(&line[rest..], &mut k) {
+    if !numerals::row(&line[rest..], &mut k) {
         return CommandLine::Other;
     }
     named(&line[..e], k[0])

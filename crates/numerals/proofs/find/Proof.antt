@@ -4,10 +4,10 @@ use Prim.Native.Nat.{_+_, _-_}
 use native.Mathlib.Omega.{arith}
 use lib.ListN.{length, drop}
 use borrow.Author.Needs.{needs}
-use Rattle.lines.specs.Text.{first}
-use Rattle.lines.proofs.Splits.{first-here, first-turn, first-end}
-use Rattle.lines.proofs.number.find.Statement.{statement}
-use Rattle.lines.proofs.number.find.Tie as tie
+use Rattle.numerals.specs.Text.{first}
+use Rattle.numerals.proofs.Splits.{first-here, first-turn, first-end}
+use Rattle.numerals.proofs.find.Statement.{statement}
+use Rattle.numerals.proofs.find.Tie as tie
 
 abbrev Inv-loop : tie.InvT-loop
 Inv-loop s at c i₀ i = i + first c (drop i s) ≡ at + first c (drop at s)

@@ -1,4 +1,4 @@
--- Bytes, words and numbers of the bench program's input: request No. 4. Assumes nothing.
+-- Words and numbers of the bench program's input: request No. 4. Assumes nothing.
 use mathlib.Core.Bool.{Bool, true, false}
 use mathlib.Core.List.{List, [], _∷_}
 use mathlib.Core.Option.{Option, none, some}
@@ -6,11 +6,10 @@ use Prim.Native.Nat.{ℕ, suc, _+_, _*_, _-_}
 use lib.Dec.{leb, eqb}
 use lib.ListN.{length}
 use Rattle.state.specs.Choice.{pick}
+use Rattle.numerals.specs.declared.Numeral.{Numeral}
+use Rattle.numerals.specs.declared.Numeral.the-variants.{Is, Not}
 
--- what ends a line, and what stands between words
-abbrev pub lineFeed : ℕ
-lineFeed = 10
-
+-- what stands between words
 abbrev pub space : ℕ
 space = 32
 
@@ -75,9 +74,12 @@ exactly k (some ns) = pick (eqb (length ns) k) (some ns) none
 unfoldable pub row : ℕ → List ℕ → Option (List ℕ)
 row k line = exactly k (numbers (split space line))
 
--- two words are the same
-unfoldable pub alike : List ℕ → List ℕ → Bool
-alike [] [] = true
-alike [] (y ∷ ys) = false
-alike (x ∷ xs) [] = false
-alike (x ∷ xs) (y ∷ ys) = pick (eqb x y) (alike xs ys) false
+-- a word, as the code answers it
+unfoldable pub numeralOf : Numeral → Option ℕ
+numeralOf (Is n) = some n
+numeralOf Not = none
+
+-- a row of numbers, as the code answers it: whether it is one, and the numbers
+unfoldable pub rowOf : Bool → List ℕ → Option (List ℕ)
+rowOf true ns = some ns
+rowOf false ns = none

@@ -10,7 +10,7 @@ use lib.ListN.{length, take, drop, getD, length-drop, drop-of-length-le}
 use lib.Seq.{drop-cons, drop-drop, take-length}
 use borrow.Author.Tests.{eq-eqb, ne-eqb}
 use Rattle.state.specs.Choice.{pick}
-use Rattle.lines.specs.Text.{grown, split, first}
+use Rattle.numerals.specs.Text.{grown, split, first}
 
 -- ---- a turn of the search, and its end
 

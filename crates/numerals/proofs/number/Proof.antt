@@ -5,11 +5,10 @@ use native.Mathlib.Nat.{lt-of-lt-of-le}
 use native.Mathlib.Omega.{arith}
 use lib.ListN.{length, drop, drop-of-length-le}
 use borrow.Author.Needs.{needs}
-use Rattle.lines.specs.Lines.{numeralOf}
-use Rattle.lines.specs.Text.{digits, value, mostNumber}
-use Rattle.lines.proofs.Numbers.{is-digit, below-digits, above-digits, digits-turn, digits-not, value-turn, value-grows, number-empty, number-not, number-over, number-is}
-use Rattle.lines.proofs.number.number.Statement.{statement}
-use Rattle.lines.proofs.number.number.Tie as tie
+use Rattle.numerals.specs.Text.{digits, value, mostNumber, numeralOf}
+use Rattle.numerals.proofs.Numbers.{is-digit, below-digits, above-digits, digits-turn, digits-not, value-turn, value-grows, number-empty, number-not, number-over, number-is}
+use Rattle.numerals.proofs.number.Statement.{statement}
+use Rattle.numerals.proofs.number.Tie as tie
 
 abbrev Inv-loop : tie.InvT-loop
 Inv-loop word n₀ i₀ n i =

@@ -9,11 +9,11 @@ use lib.Dec.{eqb}
 use lib.ListN.{length}
 use borrow.Author.Tests.{eq-eqb, ne-eqb, eqb-true}
 use Rattle.state.specs.Choice.{pick}
-use Rattle.lines.specs.Text.{space, grown, split, first, digits, number, more, numbers, exactly, row}
-use Rattle.lines.specs.Grammar.{Written, Row}
-use Rattle.lines.specs.Grammar as grammar
-use Rattle.lines.proofs.Splits.{split-last}
-use Rattle.lines.proofs.Decimal.{digit-is, digits-are, number-some, number-written, written-number}
+use Rattle.numerals.specs.Text.{space, grown, split, first, digits, number, more, numbers, exactly, row}
+use Rattle.numerals.specs.Grammar.{Written, Row}
+use Rattle.numerals.specs.Grammar as grammar
+use Rattle.numerals.proofs.Splits.{split-last}
+use Rattle.numerals.proofs.Decimal.{digit-is, digits-are, number-some, number-written, written-number}
 
 -- ---- cutting, and joining again
 

@@ -4,13 +4,12 @@ use Prim.Native.Nat.{_≤_, _-_}
 use native.Mathlib.Omega.{arith}
 use lib.ListN.{length, length-set}
 use borrow.Author.Needs.{needs}
-use Rattle.lines.specs.Text.{space}
-use Rattle.lines.specs.Lines.{numeralOf}
-use Rattle.lines.proofs.Splits.{part-within}
-use Rattle.lines.proofs.Numbers.{ahead-nil}
-use Rattle.lines.proofs.Rows.{Read, row-many, row-not, row-last, row-next}
-use Rattle.lines.proofs.number.row.Statement.{statement}
-use Rattle.lines.proofs.number.row.Tie as tie
+use Rattle.numerals.specs.Text.{space, numeralOf}
+use Rattle.numerals.proofs.Splits.{part-within}
+use Rattle.numerals.proofs.Numbers.{ahead-nil}
+use Rattle.numerals.proofs.Rows.{Read, row-many, row-not, row-last, row-next}
+use Rattle.numerals.proofs.row.Statement.{statement}
+use Rattle.numerals.proofs.row.Tie as tie
 
 abbrev Inv-loop : tie.InvT-loop
 Inv-loop line out₀ at₀ i₀ out at i =

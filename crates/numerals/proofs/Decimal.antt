@@ -10,9 +10,9 @@ use lib.Dec.{leb}
 use lib.ListN.{length}
 use borrow.Author.Tests.{leb-true}
 use Rattle.state.specs.Choice.{pick}
-use Rattle.lines.specs.Text.{digit, digits, value, upTo, mostNumber, number}
-use Rattle.lines.specs.Grammar.{spelled, Written}
-use Rattle.lines.proofs.Numbers.{is-digit, number-is}
+use Rattle.numerals.specs.Text.{digit, digits, value, upTo, mostNumber, number}
+use Rattle.numerals.specs.Grammar.{spelled, Written}
+use Rattle.numerals.proofs.Numbers.{is-digit, number-is}
 
 -- ---- what a word must be to be a number
 

@@ -1,9 +1,9 @@
-// A word as a number, and the words of a line.
+// A word as a number, and a line as a row of them: the reading of words of the bench program's input. The rules are in specs/Text;
+// every function here answers just what they say.
 ghost use mathlib.Core.Path.{_≡_};
 ghost use Prim.Native.Nat.{_+_};
 ghost use lib.ListN.{drop, length};
-ghost use Rattle.lines.specs.Text.{first, number as Text·number, row as Text·row};
-ghost use Rattle.lines.specs.Lines.{numeralOf, rowOf};
+ghost use Rattle.numerals.specs.Text.{first, number as Text·number, row as Text·row, numeralOf, rowOf};
 
 pub const SPACE: u8 = 32;
 
@@ -17,12 +17,6 @@ fn wide(x: u8) -> u64
     ensures { λ r. ⌜ r ≡ x ⌝ }
 {
     x as u64
-}
-
-pub fn size(x: u32) -> usize
-    ensures { λ r. ⌜ r ≡ x ⌝ }
-{
-    x as usize
 }
 
 // A word that is past the limit is given up at the first digit too many, so no sum wraps however long it is.

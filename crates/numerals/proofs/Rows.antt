@@ -9,10 +9,9 @@ use native.Mathlib.Omega.{arith}
 use lib.Dec.{eqb}
 use lib.ListN.{length, take, drop, set, length-set, length-take}
 use lib.Seq.{take-suc-set}
-use Rattle.lines.specs.Text.{space, first, split, number, numbers, row}
-use Rattle.lines.specs.Lines.{rowOf}
-use Rattle.lines.proofs.Splits.{split-head, part-head, part-last, part-next}
-use Rattle.lines.proofs.Numbers.{ahead, numbers-turn, numbers-not, numbers-many, numbers-end}
+use Rattle.numerals.specs.Text.{space, first, split, number, numbers, row, rowOf}
+use Rattle.numerals.proofs.Splits.{split-head, part-head, part-last, part-next}
+use Rattle.numerals.proofs.Numbers.{ahead, numbers-turn, numbers-not, numbers-many, numbers-end}
 
 -- i numbers are read and stand in `out`; the rest of the line starts at `at`
 abbrev pub Read : List ℕ → List ℕ → ℕ → ℕ → Type 0

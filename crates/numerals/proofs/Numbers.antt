@@ -12,8 +12,7 @@ use lib.ListN.{length, take, drop, getD, length-append}
 use lib.Seq.{drop-cons, take-length, length-take-le}
 use borrow.Author.Tests.{le-leb, lt-leb, eq-eqb, ne-eqb, eqb-true}
 use Rattle.state.specs.Choice.{pick}
-use Rattle.lines.specs.Lines.{rowOf}
-use Rattle.lines.specs.Text.{digit, digits, value, upTo, mostNumber, number, more, numbers, exactly}
+use Rattle.numerals.specs.Text.{digit, digits, value, upTo, mostNumber, number, more, numbers, exactly, rowOf}
 
 same : {A : Type 0} (t : Bool) (x : A) → x ≡ pick t x x
 unfolding pick

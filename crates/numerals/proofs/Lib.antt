@@ -1,0 +1,5 @@
+pub mod Splits
+pub mod Numbers
+pub mod Rows
+pub mod Decimal
+pub mod Grammar
