@@ -1,15 +1,14 @@
 -- What is promised of each function of the C boundary: the packed report and the flash of its call. Assumes nothing.
 use mathlib.Core.Path.{_≡_}
-use mathlib.Core.List.{List, []}
+use mathlib.Core.List.{List}
 use Prim.Native.Nat.{ℕ}
 use lib.ListN.{length}
 use Rattle.geometry.specs.declared.Geometry.{Geometry}
 use Rattle.geometry.specs.declared.Sizes.{Sizes}
 use Rattle.mem_flash.specs.Flash.{Flash}
-use Rattle.mem_flash.specs.Run.{flash}
 use Rattle.rules.specs.Calls.{Call, report, left}
 use Rattle.rules.specs.FirmwareUpdater.{readDfu, readOut, writeFirmware, memory}
-use Rattle.embassy_boot.specs.Packed.{packed, sectorOf, lastNumber}
+use Rattle.packed.specs.Packed.{packed, sectorOf, lastNumber}
 
 -- the sizes, which C hands over as numbers in a row
 abbrev pub geometry : ℕ → ℕ → ℕ → ℕ → ℕ → ℕ → ℕ → Geometry

@@ -1,86 +1,25 @@
 // The C boundary: every call of the library under a plain name, over pointers, lengths and numbers. Nothing is decided here;
-// each function makes the library's record of its sizes, calls, and packs the answer into one number, as specs/Packed says.
+// each function makes the library's record of its sizes, calls, and packs the answer into one number, as `packed` says.
 // None asks anything of its caller beyond slices that are there: what does not fit is refused by the call.
 ghost use mathlib.Core.Path.{_≡_};
 ghost use mathlib.Core.List.{[]};
-ghost use Prim.Native.Nat.{_≤_, _<_, _^_};
-ghost use lib.ListN.{length};
 ghost use Rattle.state.specs.declared.State.{State};
 ghost use Rattle.state.specs.Magic.{stateOf};
 ghost use Rattle.mem_flash.specs.Run.{flash};
-ghost use Rattle.rules.specs.Calls.{reported, report};
+ghost use Rattle.rules.specs.Calls.{report};
 ghost use Rattle.rules.specs.Boot.{prepareBoot, getState};
 ghost use Rattle.rules.specs.FirmwareState.{mark};
 ghost use Rattle.rules.specs.FirmwareUpdater.{updaterGetState, updaterMarkUpdated, updaterMarkDfu, updaterMarkBooted, prepareUpdate};
 ghost use Rattle.firmware_updater.specs.Updated.{lastOf};
-ghost use Rattle.embassy_boot.specs.Packed.{stateNumber, joined, packed, sectorOf, lastNumber};
+ghost use Rattle.packed.specs.Packed.{stateNumber, packed, sectorOf};
 ghost use Rattle.embassy_boot.specs.Told.{geometry, sizes, Told, ToldRead, ToldWrite};
 use boot_loader::BootLoader;
 use firmware_state::BlockingFirmwareState;
 use firmware_updater::BlockingFirmwareUpdater;
 use geometry::Geometry;
 use geometry::Sizes;
-use rules::Answer;
-use rules::Sector;
+use packed::NO_SECTOR;
 use state::State;
-
-// In place of a state where the answer carries none.
-const NO_STATE: u32 = 255;
-
-// In place of a sector where the updater remembers none.
-const NO_SECTOR: u32 = 4294967295;
-
-// ---- from the library's values to numbers
-
-fn state_number(s: State) -> u32
-    ensures { λ r. ⌜ (r ≡ stateNumber s) × (r ≤ 3) ⌝ }
-{
-    match s {
-        State::Boot => 0,
-        State::Swap => 1,
-        State::Revert => 2,
-        State::DfuDetach => 3,
-    }
-}
-
-// Three numbers in one. The two bounds are what makes it fit 64 bits.
-fn join(number: u32, state: u32, count: u32) -> u64
-    requires { ⌜ (number ≤ 7) × (state ≤ 255) ⌝ }
-    ensures { λ r. ⌜ r ≡ joined number state count ⌝ }
-{
-    number as u64 * 1099511627776 + state as u64 * 4294967296 + count as u64
-}
-
-fn pack(answer: Answer) -> u64
-    ensures { λ r. ⌜ r ≡ packed (reported answer) ⌝ }
-{
-    match answer {
-        Answer::Found(s, n) => join(0, state_number(s), n),
-        Answer::Done(n) => join(0, NO_STATE, n),
-        Answer::Refused(why) => join(why.number(), NO_STATE, 0),
-        Answer::Cut(n) => join(7, NO_STATE, n),
-    }
-}
-
-// A number that is no sector of the area is taken as it is: it equals no sector in use, so it counts as another one.
-fn sector(last: u32) -> Sector
-    ensures { λ r. ⌜ r ≡ sectorOf last ⌝ }
-{
-    if last == NO_SECTOR {
-        return Sector::None;
-    }
-    Sector::At(last as usize)
-}
-
-fn last_number(memory: Sector) -> u32
-    requires { ⌜ lastNumber memory < 2 ^ 32 ⌝ }
-    ensures { λ r. ⌜ r ≡ lastNumber memory ⌝ }
-{
-    match memory {
-        Sector::None => NO_SECTOR,
-        Sector::At(s) => s as u32,
-    }
-}
 
 // ---- boot
 
@@ -112,7 +51,7 @@ pub extern "C" fn eb_prepare_boot(
         ws,
         b,
     };
-    pack(BootLoader::new(g).prepare_boot(active, dfu, state, budget))
+    packed::pack(BootLoader::new(g).prepare_boot(active, dfu, state, budget))
 }
 
 // The boot loader's reading of the state area. The images' sizes play no part in it.
@@ -129,7 +68,7 @@ pub extern "C" fn eb_read_state(state: &[u8], es: u32, ws: u32) -> u64
         ws,
         b: 0,
     };
-    pack(BootLoader::new(g).read_state(state))
+    packed::pack(BootLoader::new(g).read_state(state))
 }
 
 // ---- the firmware state
@@ -138,7 +77,7 @@ pub extern "C" fn eb_read_state(state: &[u8], es: u32, ws: u32) -> u64
 pub extern "C" fn eb_state_get_state(state: &[u8], es: u32, ws: u32) -> u64
     ensures { λ r. ⌜ r ≡ packed (report (getState es ws (now (state .entry))) 0) ⌝ }
 {
-    pack(BlockingFirmwareState::new(es, ws).get_state(state))
+    packed::pack(BlockingFirmwareState::new(es, ws).get_state(state))
 }
 
 // The next boot swaps the images.
@@ -146,7 +85,7 @@ pub extern "C" fn eb_state_get_state(state: &[u8], es: u32, ws: u32) -> u64
 pub extern "C" fn eb_state_mark_updated(state: &mut [u8], es: u32, ws: u32, budget: u32) -> u64
     ensures { λ r. ⌜ Told (mark State.Swap es ws (now (state .entry))) budget (flash [] [] (now (state .entry))) (flash [] [] (now (state .exit))) r ⌝ }
 {
-    pack(BlockingFirmwareState::new(es, ws).mark_updated(state, budget))
+    packed::pack(BlockingFirmwareState::new(es, ws).mark_updated(state, budget))
 }
 
 // The next boot starts the USB update.
@@ -154,7 +93,7 @@ pub extern "C" fn eb_state_mark_updated(state: &mut [u8], es: u32, ws: u32, budg
 pub extern "C" fn eb_state_mark_dfu(state: &mut [u8], es: u32, ws: u32, budget: u32) -> u64
     ensures { λ r. ⌜ Told (mark State.DfuDetach es ws (now (state .entry))) budget (flash [] [] (now (state .entry))) (flash [] [] (now (state .exit))) r ⌝ }
 {
-    pack(BlockingFirmwareState::new(es, ws).mark_dfu(state, budget))
+    packed::pack(BlockingFirmwareState::new(es, ws).mark_dfu(state, budget))
 }
 
 // The new firmware is confirmed: the next boot does not undo the swap.
@@ -162,7 +101,7 @@ pub extern "C" fn eb_state_mark_dfu(state: &mut [u8], es: u32, ws: u32, budget: 
 pub extern "C" fn eb_state_mark_booted(state: &mut [u8], es: u32, ws: u32, budget: u32) -> u64
     ensures { λ r. ⌜ Told (mark State.Boot es ws (now (state .entry))) budget (flash [] [] (now (state .entry))) (flash [] [] (now (state .exit))) r ⌝ }
 {
-    pack(BlockingFirmwareState::new(es, ws).mark_booted(state, budget))
+    packed::pack(BlockingFirmwareState::new(es, ws).mark_booted(state, budget))
 }
 
 // ---- the firmware updater
@@ -171,7 +110,7 @@ pub extern "C" fn eb_state_mark_booted(state: &mut [u8], es: u32, ws: u32, budge
 fn updater(ed: u32, wd: u32, es: u32, ws: u32, last: u32) -> BlockingFirmwareUpdater
     ensures { λ r. ⌜ (r .sizes ≡ sizes ed wd es ws) × (lastOf r ≡ sectorOf last) ⌝ }
 {
-    let memory = sector(last);
+    let memory = packed::sector(last);
     let sizes = Sizes { ed, wd, es, ws };
     BlockingFirmwareUpdater {
         sizes,
@@ -190,7 +129,7 @@ pub extern "C" fn eb_updater_get_state(
 ) -> u64
     ensures { λ r. ⌜ r ≡ packed (report (updaterGetState (sizes ed wd es ws) (flash [] (now (dfu .entry)) (now (state .entry)))) 0) ⌝ }
 {
-    pack(updater(ed, wd, es, ws, NO_SECTOR).get_state(dfu, state))
+    packed::pack(updater(ed, wd, es, ws, NO_SECTOR).get_state(dfu, state))
 }
 
 // The next boot swaps the images.
@@ -207,7 +146,7 @@ pub extern "C" fn eb_updater_mark_updated(
     ensures { λ r. ⌜ Told (updaterMarkUpdated (sizes ed wd es ws) (flash [] (now (dfu .entry)) (now (state .entry)))) budget
         (flash [] (now (dfu .entry)) (now (state .entry))) (flash [] (now (dfu .entry)) (now (state .exit))) r ⌝ }
 {
-    pack(updater(ed, wd, es, ws, NO_SECTOR).mark_updated(dfu, state, budget))
+    packed::pack(updater(ed, wd, es, ws, NO_SECTOR).mark_updated(dfu, state, budget))
 }
 
 // The next boot starts the USB update. Not while a swap is pending.
@@ -224,7 +163,7 @@ pub extern "C" fn eb_updater_mark_dfu(
     ensures { λ r. ⌜ Told (updaterMarkDfu (sizes ed wd es ws) (flash [] (now (dfu .entry)) (now (state .entry)))) budget
         (flash [] (now (dfu .entry)) (now (state .entry))) (flash [] (now (dfu .entry)) (now (state .exit))) r ⌝ }
 {
-    pack(updater(ed, wd, es, ws, NO_SECTOR).mark_dfu(dfu, state, budget))
+    packed::pack(updater(ed, wd, es, ws, NO_SECTOR).mark_dfu(dfu, state, budget))
 }
 
 // The new firmware is confirmed.
@@ -241,7 +180,7 @@ pub extern "C" fn eb_updater_mark_booted(
     ensures { λ r. ⌜ Told (updaterMarkBooted (sizes ed wd es ws) (flash [] (now (dfu .entry)) (now (state .entry)))) budget
         (flash [] (now (dfu .entry)) (now (state .entry))) (flash [] (now (dfu .entry)) (now (state .exit))) r ⌝ }
 {
-    pack(updater(ed, wd, es, ws, NO_SECTOR).mark_booted(dfu, state, budget))
+    packed::pack(updater(ed, wd, es, ws, NO_SECTOR).mark_booted(dfu, state, budget))
 }
 
 // Fills `out` with the bytes of DFU from an offset on.
@@ -258,7 +197,7 @@ pub extern "C" fn eb_updater_read_dfu(
 ) -> u64
     ensures { λ r. ⌜ ToldRead (sizes ed wd es ws) offset (now (out .entry)) (now (out .exit)) (flash [] (now (dfu .entry)) (now (state .entry))) r ⌝ }
 {
-    pack(updater(ed, wd, es, ws, NO_SECTOR).read_dfu(dfu, state, offset, out))
+    packed::pack(updater(ed, wd, es, ws, NO_SECTOR).read_dfu(dfu, state, offset, out))
 }
 
 // Writes data at an offset of DFU, sector by sector. Not while a swap is pending. The memory is the caller's, in `last`.
@@ -282,9 +221,9 @@ pub extern "C" fn eb_updater_write_firmware(
     let wrote = before.write_firmware(dfu, state, offset as usize, data, budget);
     let after = wrote.updater;
     let memory = after.last_erased_dfu_sector_index;
-    *last = last_number(memory);
+    *last = packed::last_number(memory);
     let answer = wrote.answer;
-    pack(answer)
+    packed::pack(answer)
 }
 
 // Erases all of DFU. Not while a swap is pending. The memory isn't touched, so it isn't asked for.
@@ -303,7 +242,7 @@ pub extern "C" fn eb_updater_prepare_update(
 {
     let wrote = updater(ed, wd, es, ws, NO_SECTOR).prepare_update(dfu, state, budget);
     let answer = wrote.answer;
-    pack(answer)
+    packed::pack(answer)
 }
 
 // ---- states
@@ -313,5 +252,5 @@ pub extern "C" fn eb_updater_prepare_update(
 pub extern "C" fn eb_state_from(bytes: &[u8]) -> u32
     ensures { λ r. ⌜ r ≡ stateNumber (stateOf (now (bytes .entry))) ⌝ }
 {
-    state_number(State::from(bytes))
+    packed::state_number(State::from(bytes))
 }

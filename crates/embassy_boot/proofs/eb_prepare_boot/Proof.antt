@@ -1,8 +1,5 @@
 -- `eb_prepare_boot` meets its contract: the loader's promise, with the caller's sizes for the loader's.
 -- Assumes nothing.
-use mathlib.Core.Path.{ap}
-use Rattle.mem_flash.specs.Run.{flash}
-use Rattle.rules.specs.Boot.{prepareBoot}
 use Rattle.embassy_boot.proofs.Packs.{tells}
 use borrow.Author.Needs.{needs}
 use Rattle.embassy_boot.proofs.eb_prepare_boot.Statement.{statement}
@@ -27,7 +24,7 @@ same-length-3 : tie.Need-same-length-3
 same-length-3 c = search needs
 
 returns : tie.Need-returns
-returns c = let a = c .before .before .before .before .before .before .before .before .before .before .before .before .before .before .before .args in tells (ap (λ g. prepareBoot g (flash (a .active .now) (a .dfu .now) (a .state .now))) (c .before .before .before .before .before .before .before .before .before .before .before .new .ensures)) (c .before .before .before .before .before .before .before .prepare-boot .ensures) (c .pack .ensures)
+returns c = tells (rw (c .before .before .before .before .before .before .before .before .before .before .before .new .ensures) at (c .before .before .before .before .before .before .before .prepare-boot .ensures)) (c .pack .ensures)
 
 pub eb-prepare-boot-spec : {M : Type 1} → statement M
 eb-prepare-boot-spec =

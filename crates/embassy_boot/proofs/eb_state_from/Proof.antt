@@ -1,7 +1,7 @@
 -- `eb_state_from` meets its contract: the number of the state that the bytes read as.
 -- Assumes nothing.
 use mathlib.Core.Path.{ap, _∙_}
-use Rattle.embassy_boot.specs.Packed.{stateNumber}
+use Rattle.packed.specs.Packed.{stateNumber}
 use borrow.Author.Needs.{needs}
 use Rattle.embassy_boot.proofs.eb_state_from.Statement.{statement}
 use Rattle.embassy_boot.proofs.eb_state_from.Tie as tie

@@ -1,8 +1,5 @@
 -- `eb_state_mark_updated` meets its contract: the promise of the firmware state, with the caller's sizes.
 -- Assumes nothing.
-use mathlib.Core.Path.{ap, _∙_}
-use Rattle.state.specs.declared.State.the-variants.{Swap}
-use Rattle.rules.specs.FirmwareState.{mark}
 use Rattle.embassy_boot.proofs.Packs.{tells}
 use borrow.Author.Needs.{needs}
 use Rattle.embassy_boot.proofs.eb_state_mark_updated.Statement.{statement}
@@ -21,7 +18,7 @@ same-length : tie.Need-same-length
 same-length c = search needs
 
 returns : tie.Need-returns
-returns c = let a = c .before .before .before .before .before .before .before .args in tells (ap (λ e. mark Swap e (c .before .before .before .before .before .new .result .ws) (a .state .now)) (c .before .before .before .before .before .new .ensures .0) ∙ ap (λ w. mark Swap (a .es) w (a .state .now)) (c .before .before .before .before .before .new .ensures .1)) (c .before .before .before .mark-updated .ensures) (c .pack .ensures)
+returns c = let n = c .before .before .before .before .before .new .ensures in tells (rw (n .0, n .1) at (c .before .before .before .mark-updated .ensures)) (c .pack .ensures)
 
 pub eb-state-mark-updated-spec : {M : Type 1} → statement M
 eb-state-mark-updated-spec =

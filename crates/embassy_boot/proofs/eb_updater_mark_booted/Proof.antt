@@ -1,9 +1,5 @@
 -- `eb_updater_mark_booted` meets its contract: the updater's promise, with the caller's sizes.
 -- Assumes nothing.
-use mathlib.Core.Path.{ap}
-use mathlib.Core.List.{[]}
-use Rattle.mem_flash.specs.Run.{flash}
-use Rattle.rules.specs.FirmwareUpdater.{updaterMarkBooted}
 use Rattle.embassy_boot.proofs.Packs.{tells}
 use borrow.Author.Needs.{needs}
 use Rattle.embassy_boot.proofs.eb_updater_mark_booted.Statement.{statement}
@@ -22,7 +18,7 @@ same-length : tie.Need-same-length
 same-length c = search needs
 
 returns : tie.Need-returns
-returns c = let a = c .before .before .before .before .before .before .before .before .args in tells (ap (λ z. updaterMarkBooted z (flash [] (a .dfu .now) (a .state .now))) (c .before .before .before .before .before .updater .ensures .0)) (c .before .before .before .mark-booted .ensures) (c .pack .ensures)
+returns c = tells (rw (c .before .before .before .before .before .updater .ensures .0) at (c .before .before .before .mark-booted .ensures)) (c .pack .ensures)
 
 pub eb-updater-mark-booted-spec : {M : Type 1} → statement M
 eb-updater-mark-booted-spec =

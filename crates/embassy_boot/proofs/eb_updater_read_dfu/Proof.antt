@@ -1,6 +1,6 @@
 -- `eb_updater_read_dfu` meets its contract: the updater's promise of answer and buffer, with the caller's sizes.
 -- Assumes nothing.
-use Rattle.embassy_boot.proofs.Packs.{packs}
+use Rattle.embassy_boot.proofs.Packs.{tells-read}
 use borrow.Author.Needs.{needs}
 use Rattle.embassy_boot.proofs.eb_updater_read_dfu.Statement.{statement}
 use Rattle.embassy_boot.proofs.eb_updater_read_dfu.Tie as tie
@@ -18,7 +18,7 @@ same-length : tie.Need-same-length
 same-length c = search needs
 
 returns : tie.Need-returns
-returns c = let r = rw (c .before .before .before .before .before .updater .ensures .0) at (c .before .before .before .read-dfu .ensures) in record { answer = packs _ (c .pack .ensures) (r .0); filled = r .1 }
+returns c = tells-read _ (rw (c .before .before .before .before .before .updater .ensures .0) at (c .before .before .before .read-dfu .ensures)) (c .pack .ensures)
 
 pub eb-updater-read-dfu-spec : {M : Type 1} → statement M
 eb-updater-read-dfu-spec =

@@ -12,7 +12,7 @@ write-firmware-requires : tie.Need-write-firmware-requires
 write-firmware-requires c κs = search needs
 
 last-number-requires : tie.Need-last-number-requires
-last-number-requires c κs = write-fits _ _ _ _ _ _ _ _ _ _ _ (c .before .before .before .before .before .updater .ensures .0) (c .before .before .before .before .before .updater .ensures .1) (c .before .before .before .write-firmware .ensures) (search needs)
+last-number-requires c κs = write-fits _ (c .before .before .before .before .before .updater .ensures) (c .before .before .before .write-firmware .ensures) (search needs)
 
 pack-requires : tie.Need-pack-requires
 pack-requires c κs = search needs
@@ -21,7 +21,7 @@ same-length : tie.Need-same-length
 same-length c = search needs
 
 returns : tie.Need-returns
-returns c = told-write _ _ _ _ _ _ _ _ _ _ _ (c .before .before .before .before .before .before .before .updater .ensures .0) (c .before .before .before .before .before .before .before .updater .ensures .1) (c .before .before .before .before .before .write-firmware .ensures) (c .before .last-number .ensures) (c .pack .ensures)
+returns c = told-write _ (c .before .before .before .before .before .before .before .updater .ensures) (c .before .before .before .before .before .write-firmware .ensures) (c .before .last-number .ensures) (c .pack .ensures)
 
 pub eb-updater-write-firmware-spec : {M : Type 1} → statement M
 eb-updater-write-firmware-spec =

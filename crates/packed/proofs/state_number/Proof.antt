@@ -1,9 +1,9 @@
 -- `state_number` meets its contract: each arm gives the definition's number for its state.
 -- Assumes nothing.
-use Rattle.embassy_boot.specs.Packed.{stateNumber}
+use Rattle.packed.specs.Packed.{stateNumber}
 use borrow.Author.Needs.{needs}
-use Rattle.embassy_boot.proofs.state_number.Statement.{statement}
-use Rattle.embassy_boot.proofs.state_number.Tie as tie
+use Rattle.packed.proofs.state_number.Statement.{statement}
+use Rattle.packed.proofs.state_number.Tie as tie
 
 enum-told : tie.Need-enum-told
 enum-told c = search needs

@@ -2,11 +2,11 @@
 -- Assumes nothing.
 use mathlib.Core.Path.{ap, sym, _∙_}
 use Rattle.rules.specs.Calls.{reported}
-use Rattle.embassy_boot.specs.Packed.{stateByte, packed, joined}
-use Rattle.embassy_boot.proofs.Packs.{number-low}
+use Rattle.packed.specs.Packed.{stateByte, packed, joined}
+use Rattle.packed.proofs.Low.{number-low}
 use borrow.Author.Needs.{needs}
-use Rattle.embassy_boot.proofs.pack.Statement.{statement}
-use Rattle.embassy_boot.proofs.pack.Tie as tie
+use Rattle.packed.proofs.pack.Statement.{statement}
+use Rattle.packed.proofs.pack.Tie as tie
 
 enum-known-answer : tie.Need-enum-known-answer
 enum-known-answer c = search needs

@@ -1,9 +1,9 @@
 -- `join` meets its contract. What its callers owe keeps the sum within 64 bits.
 -- Assumes nothing.
-use Rattle.embassy_boot.specs.Packed.{joined}
+use Rattle.packed.specs.Packed.{joined}
 use borrow.Author.Needs.{needs}
-use Rattle.embassy_boot.proofs.join.Statement.{statement}
-use Rattle.embassy_boot.proofs.join.Tie as tie
+use Rattle.packed.proofs.join.Statement.{statement}
+use Rattle.packed.proofs.join.Tie as tie
 
 mul-result : tie.Need-mul-result
 mul-result c = search needs

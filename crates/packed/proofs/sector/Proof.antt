@@ -3,9 +3,9 @@
 use mathlib.Core.Path.{sym}
 use borrow.Author.Tests.{eq-eqb, ne-eqb}
 use Rattle.state.specs.Choice.{pick}
-use Rattle.embassy_boot.specs.Packed.{noSector, sectorOf}
-use Rattle.embassy_boot.proofs.sector.Statement.{statement}
-use Rattle.embassy_boot.proofs.sector.Tie as tie
+use Rattle.packed.specs.Packed.{noSector, sectorOf}
+use Rattle.packed.proofs.sector.Statement.{statement}
+use Rattle.packed.proofs.sector.Tie as tie
 
 returns : tie.Need-returns
 unfolding sectorOf noSector pick

@@ -1,9 +1,9 @@
 -- `last_number` meets its contract. What the caller owes is that the sector fits the cast.
 -- Assumes nothing.
-use Rattle.embassy_boot.specs.Packed.{noSector, lastNumber}
+use Rattle.packed.specs.Packed.{noSector, lastNumber}
 use borrow.Author.Needs.{needs}
-use Rattle.embassy_boot.proofs.last_number.Statement.{statement}
-use Rattle.embassy_boot.proofs.last_number.Tie as tie
+use Rattle.packed.proofs.last_number.Statement.{statement}
+use Rattle.packed.proofs.last_number.Tie as tie
 
 enum-told : tie.Need-enum-told
 enum-told c = search needs

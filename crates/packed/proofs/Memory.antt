@@ -1,15 +1,15 @@
 -- The memory at the C boundary. What write_firmware remembers is what was remembered before, or a sector of DFU; so it stands in
 -- 32 bits, no sector is taken for none, and what was written back is read again as the same memory. Assumes nothing.
-use mathlib.Core.Path.{_≡_, refl, ap, _∙_, sym}
+use mathlib.Core.Path.{_≡_, refl, ap, sym}
 use mathlib.Core.Bool.{Bool, true, false}
 use mathlib.Core.List.{List, [], _∷_, _++_}
-use Prim.Native.Nat.{ℕ, zero, suc, _+_, _*_, _/_, _^_, _≤_, _<_}
+use Prim.Native.Nat.{ℕ, zero, suc, _+_, _/_, _^_, _≤_, _<_}
 use native.Mathlib.Nat.{div-add-mod', div-le-self}
 use native.Mathlib.Decide.{decLe}
 use native.Mathlib.Omega.{arith}
-use lib.Dec.{eqb, lit<}
+use lib.Dec.{eqb}
 use lib.ListN.{length, take, drop, length-drop, drop-of-length-le}
-use borrow.Author.Tests.{eq-eqb, ne-eqb, eqb-true, eqb-false}
+use borrow.Author.Tests.{ne-eqb, eqb-true}
 use Rattle.state.specs.Choice.{pick}
 use Rattle.geometry.specs.declared.Sizes.{Sizes}
 use Rattle.geometry.specs.Refusals.{mostLength}
@@ -17,9 +17,9 @@ use Rattle.geometry.proofs.Rows.{updater-admits}
 use Rattle.mem_flash.specs.Flash.{Area, Flash, Op, erase, write}
 use Rattle.rules.specs.declared.Sector.{Sector}
 use Rattle.rules.specs.declared.Sector.the-variants.{None, At}
-use Rattle.rules.specs.FirmwareUpdater.{room, Piece, piecesFrom, pieces, remembers, piecesOps, rememberedOp, remembered, pending, badRange, updaterCall, writeFirmware, memory}
+use Rattle.rules.specs.FirmwareUpdater.{room, Piece, piecesFrom, pieces, remembers, piecesOps, rememberedOp, remembered, updaterCall, writeFirmware, memory}
 use Rattle.firmware_updater.proofs.Answers.{range-in}
-use Rattle.embassy_boot.specs.Packed.{noSector, sectorOf, lastNumber}
+use Rattle.packed.specs.Packed.{noSector, sectorOf, lastNumber}
 
 -- ---- what is remembered
 

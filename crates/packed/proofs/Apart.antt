@@ -1,7 +1,7 @@
 -- No two answers have one number at the C boundary, so nothing of an answer is lost on the way to C. Assumes nothing.
 use mathlib.Core.Path.{_≡_, refl, ap, _∙_, sym}
 use mathlib.Core.Option.{Option, none, some}
-use Prim.Native.Nat.{ℕ, _+_, _*_, _^_, _≤_, _<_}
+use Prim.Native.Nat.{ℕ, _^_, _≤_, _<_}
 use native.Mathlib.Omega.{arith}
 use lib.Dec.{eqb, lit≤}
 use Rattle.state.specs.declared.State.{State}
@@ -10,7 +10,7 @@ use Rattle.state.specs.Choice.{pick}
 use Rattle.rules.specs.declared.Answer.{Answer}
 use Rattle.rules.specs.Calls.{Report, reported}
 use Rattle.rules.proofs.Unique.{answer-unique}
-use Rattle.embassy_boot.specs.Packed.{stateNumber, stateByte, joined, packed}
+use Rattle.packed.specs.Packed.{stateNumber, stateByte, joined, packed}
 
 -- the three numbers can be read back
 apart : (a b c x y z : ℕ) → b ≤ 255 → c < 2 ^ 32 → y ≤ 255 → z < 2 ^ 32 → joined a b c ≡ joined x y z → (a ≡ x) × (b ≡ y) × (c ≡ z)

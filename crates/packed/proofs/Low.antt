@@ -1,0 +1,16 @@
+-- What makes a packed answer fit. Assumes nothing.
+use Prim.Native.Nat.{_≤_}
+use lib.Dec.{lit≤}
+use Rattle.geometry.specs.declared.Refusal.{Refusal}
+use Rattle.geometry.specs.declared.Refusal.the-variants.{Limit, Page, Area, StateArea, BadState, Range}
+use Rattle.geometry.specs.Refusals.{number}
+
+-- a refusal's number takes three bits
+pub number-low : (w : Refusal) → number w ≤ 7
+unfolding number
+number-low Limit = lit≤ tt
+number-low Page = lit≤ tt
+number-low Area = lit≤ tt
+number-low StateArea = lit≤ tt
+number-low BadState = lit≤ tt
+number-low Range = lit≤ tt
