@@ -98,5 +98,5 @@ is-by false true xs ys e f g = let z : xs ≡ ys = f refl in rw z (alike-same ys
 is-by false false xs ys e f g = e
 
 -- what the code's comparison answers
-pub alike-is : (r : Bool) (xs ys : List ℕ) → (r ≡ true → xs ≡ ys) × (xs ≡ ys → r ≡ true) → alike xs ys ≡ r
-alike-is r xs ys h = is-by (alike xs ys) r xs ys refl (h .0) (h .1)
+pub alike-is : {r : Bool} {xs ys : List ℕ} → (r ≡ true → xs ≡ ys) × (xs ≡ ys → r ≡ true) → alike xs ys ≡ r
+alike-is {r} {xs} {ys} h = is-by (alike xs ys) r xs ys refl (h .0) (h .1)

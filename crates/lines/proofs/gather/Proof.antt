@@ -54,7 +54,11 @@ loop-less : tie.Need-loop-less Inv-loop μ-loop
 loop-less c = search needs
 
 loop-again : tie.Need-loop-again Inv-loop μ-loop
-loop-again c = let l = c .before .before .before .before .before .loop in let h = c .before .before .before .before .loop-test .taken in let o = c .before .before .if2 .left in (still-long _ _ _ _ _ _ _ (l .inv .1) h o (l .inv .0), goes-on _ _ _ _ _ _ _ (l .inv .1) h o (omega (arith, c .before .if3 .left, l .inv .0)))
+loop-again c =
+    let l = c .before .before .before .before .before .loop in
+    let h = c .before .before .before .before .loop-test .taken in
+    let o = c .before .before .if2 .left in
+    (still-long _ _ _ _ _ _ _ (l .inv .1) h o (l .inv .0), goes-on _ _ _ _ _ _ _ (l .inv .1) h o (omega (arith, c .before .if3 .left, l .inv .0)))
 
 same-length-3 : tie.Need-same-length-3 Inv-loop μ-loop
 same-length-3 c = search needs

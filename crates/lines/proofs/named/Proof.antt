@@ -2,7 +2,7 @@
 use mathlib.Core.Path.{sym, _∙_, refl}
 use borrow.Author.Needs.{needs}
 use Rattle.state.specs.Choice.{pick}
-use Rattle.lines.specs.Lines.{named, update, booted, boot}
+use Rattle.lines.specs.Lines.{named}
 use Rattle.lines.proofs.Said.{alike-is}
 use Rattle.lines.proofs.named.Statement.{statement}
 use Rattle.lines.proofs.named.Tie as tie
@@ -15,7 +15,8 @@ same-requires c κs = search needs
 
 returns : tie.Need-returns
 unfolding named pick
-returns c = sym (rw (alike-is _ (c .before .before .before .before .args .name .now) update (c .before .same .ensures) ∙ c .if1 .taken) refl)
+returns c =
+    sym (rw (alike-is (c .before .same .ensures) ∙ c .if1 .taken) refl)
 
 slice-aggregate-same-2 : tie.Need-slice-aggregate-same-2
 slice-aggregate-same-2 c = search needs
@@ -25,7 +26,9 @@ same-requires-2 c κs = search needs
 
 returns-2 : tie.Need-returns-2
 unfolding named pick
-returns-2 c = sym (rw (alike-is _ (c .before .before .before .before .before .before .before .args .name .now) update (c .before .before .before .before .same .ensures) ∙ c .before .before .before .if1 .left, alike-is _ (c .before .before .before .before .before .before .before .args .name .now) booted (c .before .same2 .ensures) ∙ c .if2 .taken) refl)
+returns-2 c =
+    let u = alike-is (c .before .before .before .before .same .ensures) ∙ c .before .before .before .if1 .left in
+    sym (rw (u, alike-is (c .before .same2 .ensures) ∙ c .if2 .taken) refl)
 
 slice-aggregate-same-3 : tie.Need-slice-aggregate-same-3
 slice-aggregate-same-3 c = search needs
@@ -35,11 +38,17 @@ same-requires-3 c κs = search needs
 
 returns-3 : tie.Need-returns-3
 unfolding named pick
-returns-3 c = sym (rw (alike-is _ (c .before .before .before .before .before .before .before .before .before .before .args .name .now) update (c .before .before .before .before .before .before .before .same .ensures) ∙ c .before .before .before .before .before .before .if1 .left, alike-is _ (c .before .before .before .before .before .before .before .before .before .before .args .name .now) booted (c .before .before .before .before .same2 .ensures) ∙ c .before .before .before .if2 .left, alike-is _ (c .before .before .before .before .before .before .before .before .before .before .args .name .now) boot (c .before .same3 .ensures) ∙ c .if3 .taken) refl)
+returns-3 c =
+    let u = alike-is (c .before .before .before .before .before .before .before .same .ensures) ∙ c .before .before .before .before .before .before .if1 .left in
+    let b = alike-is (c .before .before .before .before .same2 .ensures) ∙ c .before .before .before .if2 .left in
+    sym (rw (u, b, alike-is (c .before .same3 .ensures) ∙ c .if3 .taken) refl)
 
 returns-4 : tie.Need-returns-4
 unfolding named pick
-returns-4 c = sym (rw (alike-is _ (c .before .before .before .before .before .before .before .before .before .before .args .name .now) update (c .before .before .before .before .before .before .before .same .ensures) ∙ c .before .before .before .before .before .before .if1 .left, alike-is _ (c .before .before .before .before .before .before .before .before .before .before .args .name .now) booted (c .before .before .before .before .same2 .ensures) ∙ c .before .before .before .if2 .left, alike-is _ (c .before .before .before .before .before .before .before .before .before .before .args .name .now) boot (c .before .same3 .ensures) ∙ c .if3 .left) refl)
+returns-4 c =
+    let u = alike-is (c .before .before .before .before .before .before .before .same .ensures) ∙ c .before .before .before .before .before .before .if1 .left in
+    let b = alike-is (c .before .before .before .before .same2 .ensures) ∙ c .before .before .before .if2 .left in
+    sym (rw (u, b, alike-is (c .before .same3 .ensures) ∙ c .if3 .left) refl)
 
 pub named-spec : {M : Type 1} → statement M
 named-spec =

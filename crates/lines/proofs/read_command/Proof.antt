@@ -47,7 +47,10 @@ named-requires c κs = search needs
 
 returns-3 : tie.Need-returns-3
 unfolding ordered
-returns-3 c = c .named .ensures ∙ sym (apart _ _ (c .before .before .before .before .before .before .before .before .find .ensures) (c .before .before .before .before .before .before .before .if1 .left) ∙ ap (ordered _) (row-yes _ _ _ (c .before .before .before .before .row .ensures) (c .before .before .if2 .left)))
+returns-3 c =
+    let a = apart _ _ (c .before .before .before .before .before .before .before .before .find .ensures) (c .before .before .before .before .before .before .before .if1 .left) in
+    let r = row-yes _ _ _ (c .before .before .before .before .row .ensures) (c .before .before .if2 .left) in
+    c .named .ensures ∙ sym (a ∙ ap (ordered _) r)
 
 pub read-command-spec : {M : Type 1} → statement M
 read-command-spec =

@@ -37,7 +37,11 @@ array-read-if4 c = search needs
 
 returns-4 : tie.Need-returns-4
 unfolding lengthsLine lengthsOf pick
-returns-4 c = let r = c .before .before .before .before .before .row in sym (ap lengthsOf (row-yes _ _ _ (r .ensures) (c .before .before .before .if1 .left)) ∙ rw (third-long (r .last .1 .0) (r .kept .1 .0) (c .before .before .if2 .left) (c .before .if3 .left) (c .if4 .taken)) refl)
+returns-4 c =
+    let r = c .before .before .before .before .before .row in
+    let y = row-yes _ _ _ (r .ensures) (c .before .before .before .if1 .left) in
+    let t = third-long (r .last .1 .0) (r .kept .1 .0) (c .before .before .if2 .left) (c .before .if3 .left) (c .if4 .taken) in
+    sym (ap lengthsOf y ∙ rw t refl)
 
 array-read-size : tie.Need-array-read-size
 array-read-size c = search needs
@@ -59,7 +63,11 @@ size-requires-3 c κs = search needs
 
 returns-5 : tie.Need-returns-5
 unfolding lengthsLine lengthsOf pick
-returns-5 c = let r = c .before .before .before .before .before .before .before .before .row in sym (ap lengthsOf (row-yes _ _ _ (r .ensures) (c .before .before .before .before .before .before .if1 .left)) ∙ rw (all-short (r .last .1 .0) (r .kept .1 .0) (c .before .before .before .before .before .if2 .left) (c .before .before .before .before .if3 .left) (c .before .before .before .if4 .left), ← c .before .before .size .ensures, ← c .before .size2 .ensures, ← c .size3 .ensures) refl)
+returns-5 c =
+    let r = c .before .before .before .before .before .before .before .before .row in
+    let y = row-yes _ _ _ (r .ensures) (c .before .before .before .before .before .before .if1 .left) in
+    let a = all-short (r .last .1 .0) (r .kept .1 .0) (c .before .before .before .before .before .if2 .left) (c .before .before .before .before .if3 .left) (c .before .before .before .if4 .left) in
+    sym (ap lengthsOf y ∙ rw (a, ← c .before .before .size .ensures, ← c .before .size2 .ensures, ← c .size3 .ensures) refl)
 
 pub read-lengths-spec : {M : Type 1} → statement M
 read-lengths-spec =

@@ -50,7 +50,10 @@ add-n c = search needs
 
 returns-4 : tie.Need-returns-4 Inv-loop μ-loop
 unfolding numeralOf
-returns-4 c = number-over _ (rw (c .before .before .before .before .before .before .loop .inv .4, value-turn _ _ (c .before .before .before .before .before .loop-test .taken), ← c .before .wide .ensures) (lt-of-lt-of-le (c .if4 .taken) (value-grows _ _)))
+returns-4 c =
+    let l = c .before .before .before .before .before .before .loop in
+    let t = c .before .before .before .before .before .loop-test .taken in
+    number-over _ (rw (l .inv .4, value-turn _ _ t, ← c .before .wide .ensures) (lt-of-lt-of-le (c .if4 .taken) (value-grows _ _)))
 
 add-i : tie.Need-add-i Inv-loop μ-loop
 add-i c = search needs
@@ -59,7 +62,11 @@ loop-less : tie.Need-loop-less Inv-loop μ-loop
 loop-less c = search needs
 
 loop-again : tie.Need-loop-again Inv-loop μ-loop
-loop-again c = (search needs, search needs, search needs, c .before .before .before .before .before .before .loop .inv .3 ∙ digits-turn _ _ (c .before .before .before .before .before .loop-test .taken) (is-digit _ (c .before .before .before .if2 .left) (c .before .before .if3 .left)), rw (c .before .wide .ensures) (c .before .before .before .before .before .before .loop .inv .4 ∙ value-turn _ _ (c .before .before .before .before .before .loop-test .taken) _))
+loop-again c =
+    let l = c .before .before .before .before .before .before .loop in
+    let t = c .before .before .before .before .before .loop-test .taken in
+    let d = is-digit _ (c .before .before .before .if2 .left) (c .before .before .if3 .left) in
+    (search needs, search needs, search needs, l .inv .3 ∙ digits-turn _ _ t d, rw (c .before .wide .ensures) (l .inv .4 ∙ value-turn _ _ t _))
 
 cast-t13 : tie.Need-cast-t13 Inv-loop μ-loop
 cast-t13 c = search needs

@@ -1,28 +1,22 @@
 -- `row`: the numbers put so far, ahead of those that the rest of the line is, are those that the whole line is. Assumes nothing.
 use mathlib.Core.Path.{_≡_, _∙_, sym, ap}
-use Prim.Native.Nat.{_≤_, _-_}
+use Prim.Native.Nat.{_-_}
 use native.Mathlib.Omega.{arith}
 use lib.ListN.{length, length-set}
 use borrow.Author.Needs.{needs}
-use Rattle.numerals.specs.Text.{space, numeralOf}
-use Rattle.numerals.proofs.Splits.{part-within}
-use Rattle.numerals.proofs.Numbers.{ahead-nil}
-use Rattle.numerals.proofs.Rows.{Read, row-many, row-not, row-last, row-next}
+use Rattle.numerals.specs.Text.{numeralOf}
+use Rattle.numerals.proofs.Rows.{Read, row-begins, row-many, row-within, row-not, row-last, row-next}
 use Rattle.numerals.proofs.row.Statement.{statement}
 use Rattle.numerals.proofs.row.Tie as tie
 
 abbrev Inv-loop : tie.InvT-loop
-Inv-loop line out₀ at₀ i₀ out at i =
-    (at ≤ length line)
-    × (i ≤ length out)
-    × (length out ≡ length out₀)
-    × Read line out at i
+Inv-loop line out₀ at₀ i₀ out at i = Read line out at i × (length out ≡ length out₀)
 
 abbrev μ-loop : tie.MeasureT-loop
 μ-loop line out₀ at₀ i₀ out at i = length out - i
 
 loop-holds : tie.Need-loop-holds Inv-loop μ-loop
-loop-holds c = (search needs, search needs, search needs, ahead-nil _)
+loop-holds c = (row-begins _ _, search needs)
 
 find-requires : tie.Need-find-requires Inv-loop μ-loop
 find-requires c κs = search needs
@@ -34,7 +28,7 @@ part-number-start : tie.Need-part-number-start Inv-loop μ-loop
 part-number-start c = search needs
 
 part-number-end : tie.Need-part-number-end Inv-loop μ-loop
-part-number-end c = part-within space (c .before .before .loop .at) (c .find .result) (c .before .before .before .before .before .args .line .now) (c .before .before .loop .inv .0) (c .find .ensures)
+part-number-end c = row-within (c .before .before .loop .inv .0) (c .find .ensures)
 
 number-requires : tie.Need-number-requires Inv-loop μ-loop
 number-requires c κs = search needs
@@ -50,7 +44,7 @@ same-length c = search needs
 
 returns : tie.Need-returns Inv-loop μ-loop
 unfolding numeralOf
-returns c = row-not (c .before .before .before .before .before .before .before .before .before .args .line .now) (c .before .before .before .before .before .before .loop .out) (c .before .before .before .before .before .before .loop .at) (c .before .before .before .before .before .before .loop .i) _ (c .before .before .before .before .find .result) (c .before .before .before .before .before .before .loop .inv .3) (c .before .before .before .before .before .before .loop .inv .0) (c .before .before .before .before .find .ensures) (ap numeralOf (sym (c .enum-told .given .1)) ∙ c .before .before .number .ensures)
+returns c = row-not (c .before .before .before .before .before .before .loop .inv .0) (c .before .before .before .before .find .ensures) _ (ap numeralOf (sym (c .enum-told .given .1)) ∙ c .before .before .number .ensures)
 
 mul-out : tie.Need-mul-out Inv-loop μ-loop
 mul-out c = search needs
@@ -66,23 +60,29 @@ same-length-2 c = search needs
 
 returns-2 : tie.Need-returns-2 Inv-loop μ-loop
 unfolding numeralOf
-returns-2 c = row-last (c .before .before .before .before .before .before .before .before .before .before .before .args .line .now) (c .before .before .before .before .before .before .before .before .loop .out) (c .before .before .before .before .before .before .before .before .loop .at) (c .before .before .before .before .before .before .before .before .loop .i) _ (c .before .before .before .before .before .before .find .result) (c .before .before .before .before .before .before .before .before .loop .inv .3) (c .before .before .before .before .before .before .before .before .loop .inv .0) (c .before .before .before .before .before .before .find .ensures) _ (ap numeralOf (sym (c .before .before .n .given .1)) ∙ c .before .before .before .before .number .ensures) (c .before .before .before .before .before .before .before .loop-test .taken) (c .if1 .taken) (c .before .before .before .before .before .before .before .before .loop .inv .2)
+returns-2 c =
+    let l = c .before .before .before .before .before .before .before .before .loop in
+    let w = ap numeralOf (sym (c .before .before .n .given .1)) ∙ c .before .before .before .before .number .ensures in
+    row-last (l .inv .0) (c .before .before .before .before .before .before .find .ensures) _ w (c .before .before .before .before .before .before .before .loop-test .taken) _ (c .if1 .taken) (l .inv .1)
 
 add-at : tie.Need-add-at Inv-loop μ-loop
-add-at c = omega (arith, part-within space (c .before .before .before .before .before .before .before .before .loop .at) (c .before .before .before .before .before .before .find .result) (c .before .before .before .before .before .before .before .before .before .before .before .args .line .now) (c .before .before .before .before .before .before .before .before .loop .inv .0) (c .before .before .before .before .before .before .find .ensures))
+add-at c = omega (arith, row-within (c .before .before .before .before .before .before .before .before .loop .inv .0) (c .before .before .before .before .before .before .find .ensures))
 
 loop-less : tie.Need-loop-less Inv-loop μ-loop
 loop-less c = simp length-set (omega (arith, c .before .before .before .before .before .before .before .loop-test .taken))
 
 loop-again : tie.Need-loop-again Inv-loop μ-loop
 unfolding numeralOf
-loop-again c = let w = part-within space (c .before .before .before .before .before .before .before .before .loop .at) (c .before .before .before .before .before .before .find .result) (c .before .before .before .before .before .before .before .before .before .before .before .args .line .now) (c .before .before .before .before .before .before .before .before .loop .inv .0) (c .before .before .before .before .before .before .find .ensures) in (omega (arith, w, c .if1 .left), simp length-set (omega (arith, c .before .before .before .before .before .before .before .loop-test .taken)), simp length-set (c .before .before .before .before .before .before .before .before .loop .inv .2), row-next (c .before .before .before .before .before .before .before .before .before .before .before .args .line .now) (c .before .before .before .before .before .before .before .before .loop .out) (c .before .before .before .before .before .before .before .before .loop .at) (c .before .before .before .before .before .before .before .before .loop .i) 0 (c .before .before .before .before .before .before .find .result) (c .before .before .before .before .before .before .before .before .loop .inv .3) (c .before .before .before .before .before .before .before .before .loop .inv .0) (c .before .before .before .before .before .before .find .ensures) _ (ap numeralOf (sym (c .before .before .n .given .1)) ∙ c .before .before .before .before .number .ensures) (c .before .before .before .before .before .before .before .loop-test .taken) (c .if1 .left))
+loop-again c =
+    let l = c .before .before .before .before .before .before .before .before .loop in
+    let w = ap numeralOf (sym (c .before .before .n .given .1)) ∙ c .before .before .before .before .number .ensures in
+    (row-next (l .inv .0) (c .before .before .before .before .before .before .find .ensures) _ w (c .before .before .before .before .before .before .before .loop-test .taken) (c .if1 .left), simp length-set (l .inv .1))
 
 same-length-3 : tie.Need-same-length-3 Inv-loop μ-loop
 same-length-3 c = search needs
 
 returns-3 : tie.Need-returns-3 Inv-loop μ-loop
-returns-3 c = row-many (c .before .before .before .before .args .line .now) (c .before .loop .out) (c .before .loop .at) (c .before .loop .i) _ (c .before .loop .inv .3) (c .loop-test .left) (c .before .loop .inv .2)
+returns-3 c = row-many _ (c .before .loop .inv .0) (c .loop-test .left) (c .before .loop .inv .1)
 
 pub row-spec : {M : Type 1} → statement M
 row-spec =
