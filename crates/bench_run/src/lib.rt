@@ -1,29 +1,17 @@
 // The bench program: a boot loader and a firmware state on three modelled areas, driven by lines of text. The input is read in pieces
-// and never held whole, so it may have any length. What a line says is decided in the crate `lines`; what is here puts the images in
-// place, passes each command on, and writes the answers.
-ghost use mathlib.Core.Path.{_≡_};
-ghost use Rattle.bench_run.specs.Images.{Begun};
+// and never held whole, so it may have any length. What a line says is decided in the crate `lines`, what it does to the areas in
+// `bench_images`; what is here passes one to the other, and writes the answers.
+use bench_images::MOST;
+use bench_images::Setup;
 use geometry::Geometry;
 use geometry::Verdict;
 use lines::CommandLine;
-use lines::Lengths;
 use lines::LengthsLine;
 use lines::SizesLine;
 use lines::Taken;
 use rules::Answer;
 
-mod images;
 mod show;
-
-// The most bytes of an area. All of them are lent; the second line says how many are used.
-const MOST: usize = 16384;
-
-// What the first two lines said, and whether a boot with them is refused.
-struct Setup {
-    g: Geometry,
-    l: Lengths,
-    verdict: Verdict,
-}
 
 // Which line comes next.
 enum Stage {
@@ -96,22 +84,12 @@ fn on_lengths(
 ) -> Bench {
     let read = lines::read_lengths(line);
     match read {
-        LengthsLine::Lengths(l) => next_line(b, Stage::Commands(set_up(g, l, active, dfu))),
+        LengthsLine::Lengths(l) => next_line(
+            b,
+            Stage::Commands(bench_images::set_up(g, l, active, dfu)),
+        ),
         LengthsLine::Other => bad_line(b),
     }
-}
-
-// Where a boot is refused the images stay as they are lent, FF throughout.
-fn set_up(g: Geometry, l: Lengths, active: &mut [u8; MOST], dfu: &mut [u8; MOST]) -> Setup
-    ensures { λ r. ⌜ (r .g ≡ g) × (r .l ≡ l)
-        × Begun g l (now (active .entry)) (now (dfu .entry)) (now (active .exit)) (now (dfu .exit)) (r .verdict) ⌝ }
-{
-    let verdict = geometry::boot_verdict(g, l.active, l.dfu, l.state);
-    let Verdict::Admitted = verdict else {
-        return Setup { g, l, verdict };
-    };
-    images::start(g.page_size(), l.active, active, dfu);
-    Setup { g, l, verdict }
 }
 
 fn on_command(
@@ -129,7 +107,7 @@ fn on_command(
     let verdict = s.verdict;
     let answer = match verdict {
         Verdict::Refused(why) => Answer::Refused(why),
-        Verdict::Admitted => images::obey(s.g, s.l, command, active, dfu, state),
+        Verdict::Admitted => bench_images::obey(s.g, s.l, command, active, dfu, state),
     };
     if show::told(command, answer) {
         next_line(b, Stage::Commands(s))

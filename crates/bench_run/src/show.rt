@@ -1,7 +1,7 @@
 // Writing: a line for each command, and the areas. What the texts are is decided in the crate `answer_text`.
 ghost use mathlib.Core.Path.{_≡_};
 ghost use Prim.Native.Nat.{min};
-use crate::MOST;
+use bench_images::MOST;
 use libc::STDOUT_FILENO;
 use lines::Command;
 use lines::Lengths;

@@ -33,7 +33,12 @@ on-held-requires : tie.Need-on-held-requires Inv-loop μ-loop
 on-held-requires c κs = search needs
 
 loop-less : tie.Need-loop-less Inv-loop μ-loop
-loop-less c = omega (arith, c .before .before .before .before .before .before .before .before .before .before .before .before .before .loop-test .taken, taken-line mostBytes _ (c .before .before .before .before .before .before .before .before .before .before .before .before .before .before .loop .at) _ _ (c .before .before .before .before .before .before .before .before .before .before .before .before .before .before .before .before .args .piece .now) (c .before .before .before .before .before .before .before .before .before .take-line .result) (c .before .before .before .before .before .before .before .before .before .take-line .ensures .0) (c .before .before .before .before .before .before .before .taken .given .1))
+loop-less c =
+    let l = c .before .before .before .before .before .before .before .before .before .before .before .before .before .before .loop in
+    let a = c .before .before .before .before .before .before .before .before .before .before .before .before .before .before .before .before .args in
+    let k = c .before .before .before .before .before .before .before .before .before .take-line in
+    let n = taken-line mostBytes _ (l .at) _ _ (a .piece .now) (k .result) (k .ensures .0) (c .before .before .before .before .before .before .before .taken .given .1) in
+    omega (arith, n, c .before .before .before .before .before .before .before .before .before .before .before .before .before .loop-test .taken)
 
 loop-again : tie.Need-loop-again Inv-loop μ-loop
 loop-again c = search needs

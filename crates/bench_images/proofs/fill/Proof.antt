@@ -4,9 +4,9 @@ use Prim.Native.Nat.{ℕ, _+_, _-_, _/_, _%_, _<_, _≤_}
 use native.Mathlib.Omega.{arith}
 use lib.ListN.{length, getD, length-set}
 use borrow.Author.Needs.{needs}
-use Rattle.bench_run.proofs.Laws.{filled-more}
-use Rattle.bench_run.proofs.images.fill.Statement.{statement}
-use Rattle.bench_run.proofs.images.fill.Tie as tie
+use Rattle.bench_images.proofs.Laws.{filled-more}
+use Rattle.bench_images.proofs.fill.Statement.{statement}
+use Rattle.bench_images.proofs.fill.Tie as tie
 
 abbrev Inv-loop : tie.InvT-loop
 Inv-loop area₀ size before i₀ area i = (i ≤ length area) × (length area ≡ length area₀) × ((j : ℕ) → j < i → getD area j 0 ≡ (before + j / size + 1) % 256)
@@ -33,7 +33,14 @@ loop-less : tie.Need-loop-less Inv-loop μ-loop
 loop-less c = simp length-set (omega (arith, c .before .loop-test .taken))
 
 loop-again : tie.Need-loop-again Inv-loop μ-loop
-loop-again c = (simp length-set (omega (arith, c .before .loop-test .taken)), simp length-set (c .before .before .loop .inv .1), filled-more (c .before .before .before .before .args .size) (c .before .before .before .before .args .before) (c .before .before .loop .i) (c .page-byte .result) (c .before .before .loop .area) (c .before .loop-test .taken) (c .page-byte .ensures) (c .before .before .loop .inv .2))
+loop-again c =
+    let l = c .before .before .loop in
+    let t = c .before .loop-test .taken in
+    let a = c .before .before .before .before .args in (
+      simp length-set (omega (arith, t)),
+      simp length-set (l .inv .1),
+      filled-more (a .size) (a .before) (l .i) (c .page-byte .result) (l .area) t (c .page-byte .ensures) (l .inv .2),
+    )
 
 same-length : tie.Need-same-length Inv-loop μ-loop
 same-length c = search needs

@@ -25,7 +25,7 @@ use Rattle.rules.proofs.Did.{number-some}
 use Rattle.lines.specs.declared.Lengths.{Lengths}
 use Rattle.lines.specs.declared.Command.{Command}
 use Rattle.lines.specs.declared.Command.the-variants.{Update, Booted, Boot}
-use Rattle.bench_run.specs.Images.{Started, Begun, Marked, Obeyed}
+use Rattle.bench_images.specs.Images.{Started, Begun, Marked, Obeyed}
 
 -- one more byte is filled
 pub filled-more : (size before i b : ℕ) (area : List ℕ) → i < length area → b ≡ (before + i / size + 1) % 256

@@ -2,8 +2,8 @@
 use mathlib.Core.Path.{sym}
 use lib.Seq.{length-take-le}
 use borrow.Author.Needs.{needs}
-use Rattle.bench_run.proofs.images.on_parts.Statement.{statement}
-use Rattle.bench_run.proofs.images.on_parts.Tie as tie
+use Rattle.bench_images.proofs.on_parts.Statement.{statement}
+use Rattle.bench_images.proofs.on_parts.Tie as tie
 
 returns : tie.Need-returns
 returns c = search needs

@@ -1,9 +1,9 @@
 -- `set_up`: an admitted geometry has a page, and the images start; a refused one touches nothing. Assumes nothing.
 use mathlib.Core.Path.{refl}
 use borrow.Author.Needs.{needs}
-use Rattle.bench_run.proofs.Laws.{begun-refused, page-there, begun-admitted}
-use Rattle.bench_run.proofs.set_up.Statement.{statement}
-use Rattle.bench_run.proofs.set_up.Tie as tie
+use Rattle.bench_images.proofs.Laws.{begun-refused, page-there, begun-admitted}
+use Rattle.bench_images.proofs.set_up.Statement.{statement}
+use Rattle.bench_images.proofs.set_up.Tie as tie
 
 boot-verdict-requires : tie.Need-boot-verdict-requires
 boot-verdict-requires c κs = search needs
@@ -21,10 +21,16 @@ page-size-requires : tie.Need-page-size-requires
 page-size-requires c κs = search needs
 
 start-requires : tie.Need-start-requires
-start-requires c κs = rw (c .before .before .page-size .ensures) (page-there _ (c .before .before .before .before .before .before .args .l) (c .before .before .before .before .before .boot-verdict .result) (c .before .before .before .before .before .boot-verdict .ensures) (c .before .before .before .enum-told .given .1))
+start-requires c κs =
+    let v = c .before .before .before .before .before .boot-verdict in
+    let a = c .before .before .before .enum-told .given .1 in
+    rw (c .before .before .page-size .ensures) (page-there _ (c .before .before .before .before .before .before .args .l) (v .result) (v .ensures) a)
 
 returns-2 : tie.Need-returns-2
-returns-2 c = (refl, refl, begun-admitted _ _ _ (c .before .before .before .before .before .before .boot-verdict .ensures) (c .before .before .before .before .enum-told .given .1) _ _ _ _ _ (c .before .before .before .page-size .ensures) (c .start .ensures))
+returns-2 c =
+    let v = c .before .before .before .before .before .before .boot-verdict .ensures in
+    let a = c .before .before .before .before .enum-told .given .1 in
+    (refl, refl, begun-admitted _ _ _ v a _ _ _ _ _ (c .before .before .before .page-size .ensures) (c .start .ensures))
 
 pub set-up-spec : {M : Type 1} → statement M
 set-up-spec =
