@@ -1,2 +1,1 @@
-pub mod Wrote
 pub mod Updated

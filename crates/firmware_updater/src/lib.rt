@@ -1,27 +1,13 @@
 // The firmware updater: firmware_updater/blocking.rs, whose firmware state is the crate of that name. The areas are lent to each call, the sizes stand
 // by value in the records, and a budget of operations stands for the power supply.
 ghost use mathlib.Core.Path.{_≡_};
-ghost use mathlib.Core.Bool.{Bool, true, false, not};
-ghost use mathlib.Core.Option.{none};
-ghost use mathlib.Core.List.{List, [], _∷_};
-ghost use Prim.Native.Nat.{ℕ, _+_, _≤_, _<_};
-ghost use lib.ListN.{length, take, drop};
-ghost use Rattle.state.specs.declared.State.{State};
-ghost use Rattle.state.specs.Magic.{magic};
-ghost use Rattle.geometry.specs.Refusals.{verdict, updaterRefusal};
+ghost use mathlib.Core.List.{[]};
+ghost use lib.ListN.{length};
 ghost use Rattle.mem_flash.specs.Run.{flash};
 ghost use Rattle.rules.specs.declared.Sector.{Sector};
-ghost use Rattle.rules.specs.Calls.{Call, reported, report, Did};
-ghost use Rattle.rules.specs.Boot.{getState};
-ghost use Rattle.rules.specs.FirmwareState.{setMagicOps, mark};
-ghost use Rattle.rules.specs.FirmwareUpdater.{pending, pastEnd, badRange, updaterGetState, updaterMarkUpdated, updaterMarkDfu, updaterMarkBooted, readDfu, readOut};
-ghost use Rattle.state_area.specs.Area.{InState};
-ghost use Rattle.firmware_updater.specs.Updated.{lastOf, remembering, WroteFirmware, PreparedUpdate};
-
-mod lent;
-mod pieces;
-mod range;
-
+ghost use Rattle.rules.specs.Calls.{reported, report, Did};
+ghost use Rattle.rules.specs.FirmwareUpdater.{updaterGetState, updaterMarkUpdated, updaterMarkDfu, updaterMarkBooted, readDfu, readOut};
+ghost use Rattle.firmware_updater.specs.Updated.{lastOf, WroteFirmware, PreparedUpdate};
 use firmware_state::BlockingFirmwareState;
 use geometry::Offset;
 use geometry::Refusal;
@@ -34,7 +20,7 @@ use rules::Sector;
 use state::State;
 
 // The application's side: new firmware is written to DFU, and the next boot is told of it. The record is handed in and back,
-// or lent (lent.rt); it holds the sizes, and the sector that was erased last.
+// or lent (crate firmware_lent); it holds the sizes, and the sector that was erased last.
 pub struct BlockingFirmwareUpdater {
     pub sizes: Sizes,
     pub last_erased_dfu_sector_index: Sector,
@@ -77,10 +63,10 @@ impl BlockingFirmwareUpdater {
             return Answer::Refused(why);
         }
         let from = offset as usize;
-        if range::past_end(dfu.len(), from, buf.len()) {
+        if firmware_pieces::range::past_end(dfu.len(), from, buf.len()) {
             return Answer::Refused(Refusal::Range);
         }
-        range::copy_out(buf, dfu, from);
+        firmware_pieces::range::copy_out(buf, dfu, from);
         Answer::Done(0)
     }
 
@@ -97,7 +83,7 @@ impl BlockingFirmwareUpdater {
         ensures { λ r. ⌜ Did (updaterMarkDfu (self .sizes) (flash [] (now (dfu .entry)) (now (state .entry)))) budget
             (flash [] (now (dfu .entry)) (now (state .entry))) (flash [] (now (dfu .entry)) (now (state .exit))) r ⌝ }
     {
-        let judged = self.booted_verdict(dfu.len(), state);
+        let judged = firmware_pieces::booted_verdict(self.sizes, dfu.len(), state);
         self.state().mark(state, State::DfuDetach, judged, budget)
     }
 
@@ -120,7 +106,13 @@ impl BlockingFirmwareUpdater {
     ) -> Written
         ensures { λ r. ⌜ WroteFirmware self budget offset (now («data» .entry)) (now (dfu .entry)) (now (state .entry)) (now (dfu .exit)) (r .updater) (r .answer) ⌝ }
     {
-        let judged = self.write_verdict(dfu.len(), state, offset, data.len());
+        let judged = firmware_pieces::write_verdict(
+            self.sizes,
+            dfu.len(),
+            state,
+            offset,
+            data.len(),
+        );
         if let Verdict::Refused(why) = judged {
             return Written {
                 updater: self,
@@ -129,7 +121,7 @@ impl BlockingFirmwareUpdater {
         }
         let sizes = self.sizes;
         let last = self.last_erased_dfu_sector_index;
-        let wrote = pieces::write_pieces(
+        let wrote = firmware_pieces::pieces::write_pieces(
             dfu,
             sizes.ed as usize,
             last,
@@ -159,7 +151,7 @@ impl BlockingFirmwareUpdater {
     pub fn prepare_update(self, dfu: &mut [u8], state: &[u8], budget: u32) -> Written
         ensures { λ r. ⌜ PreparedUpdate self budget (now (dfu .entry)) (now (state .entry)) (now (dfu .exit)) (r .updater) (r .answer) ⌝ }
     {
-        let judged = self.booted_verdict(dfu.len(), state);
+        let judged = firmware_pieces::booted_verdict(self.sizes, dfu.len(), state);
         if let Verdict::Refused(why) = judged {
             return Written {
                 updater: self,
@@ -186,36 +178,5 @@ impl BlockingFirmwareUpdater {
         ensures { λ r. ⌜ (r .es ≡ self .sizes .es) × (r .ws ≡ self .sizes .ws) ⌝ }
     {
         BlockingFirmwareState::new(self.sizes.es, self.sizes.ws)
-    }
-
-    // Rows 1 to 5 of the table.
-    fn booted_verdict(self, ld: usize, state: &[u8]) -> Verdict
-        ensures { λ r. ⌜ verdict r ≡ updaterRefusal (self .sizes) ld (length (now (state .entry))) (pending (self .sizes .ws) (now (state .entry))) false ⌝ }
-    {
-        let judged = geometry::updater_verdict(self.sizes, ld, state.len());
-        if let Verdict::Refused(why) = judged {
-            return Verdict::Refused(why);
-        }
-        if self.state().verify_booted(state) {
-            return Verdict::Admitted;
-        }
-        Verdict::Refused(Refusal::BadState)
-    }
-
-    // Rows 1 to 6 for n bytes of data at an offset.
-    fn write_verdict(self, ld: usize, state: &[u8], offset: usize, n: usize) -> Verdict
-        ensures { λ r. ⌜ verdict r ≡ updaterRefusal (self .sizes) ld (length (now (state .entry))) (pending (self .sizes .ws) (now (state .entry))) (badRange (self .sizes .wd) ld offset n) ⌝ }
-    {
-        let judged = geometry::updater_verdict(self.sizes, ld, state.len());
-        if let Verdict::Refused(why) = judged {
-            return Verdict::Refused(why);
-        }
-        if !self.state().verify_booted(state) {
-            return Verdict::Refused(Refusal::BadState);
-        }
-        if range::bad_range(self.sizes.wd as usize, ld, offset, n) {
-            return Verdict::Refused(Refusal::Range);
-        }
-        Verdict::Admitted
     }
 }

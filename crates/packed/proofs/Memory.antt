@@ -18,7 +18,7 @@ use Rattle.mem_flash.specs.Flash.{Area, Flash, Op, erase, write}
 use Rattle.rules.specs.declared.Sector.{Sector}
 use Rattle.rules.specs.declared.Sector.the-variants.{None, At}
 use Rattle.rules.specs.FirmwareUpdater.{room, Piece, piecesFrom, pieces, remembers, piecesOps, rememberedOp, remembered, updaterCall, writeFirmware, memory}
-use Rattle.firmware_updater.proofs.Answers.{range-in}
+use Rattle.firmware_pieces.proofs.Ranges.{range-in}
 use Rattle.packed.specs.Packed.{noSector, sectorOf, lastNumber}
 
 -- ---- what is remembered

@@ -1,3 +1,4 @@
+-- `get_state`: the verdict's refusal, or the state that `read` found. Assumes nothing.
 use mathlib.Core.Path.{refl, ap, sym}
 use mathlib.Core.Option.{some}
 use mathlib.Core.List.{[]}
@@ -7,39 +8,38 @@ use Rattle.rules.proofs.Did.{verdict-admitted, did-refused, did-nothing}
 use borrow.Author.Needs.{needs}
 use Rattle.firmware_updater.proofs.BlockingFirmwareUpdater.get_state.Statement.{statement}
 use Rattle.firmware_updater.proofs.BlockingFirmwareUpdater.get_state.Tie as tie
-use Rattle.firmware_updater.proofs.BlockingFirmwareUpdater.get_state.Reads as reads
-use Rattle.firmware_updater.proofs.BlockingFirmwareUpdater.get_state.Lts as lts
-use Rattle.geometry.proofs.updater_verdict.Reads as updater-verdict-reads
-use Rattle.state_area.proofs.read.Reads as read-reads
 
--- src/lib.rt:61:13
 updater-verdict-requires : tie.Need-updater-verdict-requires
 updater-verdict-requires c κs = search needs
 
--- src/lib.rt:62:33
 enum-known-judged : tie.Need-enum-known-judged
 enum-known-judged c = search needs
 
--- src/lib.rt:63:13
 returns : tie.Need-returns
 unfolding updaterGetState updaterCall
-returns c = let a = c .before .before .before .before .before .before .before .args in did-refused (updaterGetState (a .self .sizes) (flash [] (a .dfu .now) (a .state .now))) 0 (flash [] [] []) _ _ (c .before .before .before .updater-verdict .ensures) (c .before .judged .given .1) .answer
+returns c =
+    let j = c .before .before .before in
+    let a = j .before .before .before .before .args in
+    did-refused (updaterGetState (a .self .sizes) (flash [] (a .dfu .now) (a .state .now))) 0 (flash [] [] []) _ _
+    (j .updater-verdict .ensures) (c .before .judged .given .1) .answer
 
 enum-told : tie.Need-enum-told
 enum-told c = search needs
 
--- src/lib.rt:65:47
 cast-read : tie.Need-cast-read
 cast-read c = search needs
 
--- src/lib.rt:65:23
 read-requires : tie.Need-read-requires
 read-requires c κs = search needs
 
--- src/lib.rt:57:5
 returns-2 : tie.Need-returns-2
 unfolding updaterGetState updaterCall
-returns-2 c = let a = c .before .before .before .before .before .before .before .before .args in did-nothing (updaterGetState (a .self .sizes) (flash [] (a .dfu .now) (a .state .now))) 0 (flash [] [] []) (verdict-admitted _ _ (c .before .before .before .before .updater-verdict .ensures) (c .before .before .enum-told .given .1)) _ (ap some (sym (c .read .ensures))) refl .answer
+returns-2 c =
+    let t = c .before .before in
+    let j = t .before .before in
+    let a = j .before .before .before .before .args in
+    did-nothing (updaterGetState (a .self .sizes) (flash [] (a .dfu .now) (a .state .now))) 0 (flash [] [] [])
+    (verdict-admitted _ _ (j .updater-verdict .ensures) (t .enum-told .given .1)) _ (ap some (sym (c .read .ensures))) refl .answer
 
 pub get-state-spec : {M : Type 1} → statement M
 get-state-spec =

@@ -1,0 +1,5 @@
+pub mod Cutting
+pub mod Writes
+pub mod Loop
+pub mod Ranges
+pub mod Verdicts

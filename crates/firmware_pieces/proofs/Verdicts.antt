@@ -1,0 +1,29 @@
+-- Laws of the updater's verdicts: a refusal by rows 1 to 4, and what row 5 says of a state area that was asked. Assumes nothing.
+use mathlib.Core.Path.{_≡_, ap, _∙_, sym}
+use mathlib.Core.Bool.{Bool, true, false, not}
+use mathlib.Core.List.{List}
+use Prim.Native.Nat.{ℕ}
+use borrow.Author.Tests.{not-true, not-false}
+use Rattle.geometry.specs.declared.Sizes.{Sizes}
+use Rattle.geometry.specs.declared.Refusal.{Refusal}
+use Rattle.geometry.specs.declared.Verdict.{Verdict}
+use Rattle.geometry.specs.declared.Verdict.the-variants as verdicts
+use Rattle.geometry.specs.Refusals.{updaterRefusal, verdict, number}
+use Rattle.geometry.proofs.Rows.{updater-early}
+use Rattle.rules.specs.FirmwareUpdater.{pending}
+use Rattle.rules.proofs.Did.{number-some}
+
+-- a refusal by rows 1 to 4 stands whatever rows 5 and 6 say
+pub early-refusal : (z : Sizes) (ld ls : ℕ) (swap range : Bool) (v : Verdict) (w : Refusal) → verdict v ≡ updaterRefusal z ld ls false false
+    → v ≡ verdicts.Refused w → verdict (verdicts.Refused w) ≡ updaterRefusal z ld ls swap range
+unfolding verdict
+early-refusal z ld ls swap range v w e o =
+    updater-early z ld ls swap range (number w) (number-some w) (sym (ap verdict o) ∙ e)
+
+-- what verify_booted found, with the word size w′ of the firmware state, holds for the word size w
+module _ {w w′ : ℕ} (s : List ℕ) {found : Bool} (same : w′ ≡ w) (e : found ≡ not (pending w′ s)) where
+  pub is-booted : found ≡ true → pending w s ≡ false
+  is-booted t = ap (λ i. pending i s) (sym same) ∙ not-true _ (sym e ∙ t)
+
+  pub is-pending : found ≡ false → pending w s ≡ true
+  is-pending f = ap (λ i. pending i s) (sym same) ∙ not-false _ (sym e ∙ f)
