@@ -1,3 +1,4 @@
 pub mod Thin
 pub mod Returned
+pub mod Frame
 pub mod Marks

@@ -1,4 +1,5 @@
--- What the updater's calls hand back, as machine values: the answer, or the struct of the record and the answer. For the proofs of the functions that are lent the record (`Thin.antt`).
+-- What the updater's calls hand back, as machine values: the answer, or the struct of the record and the answer. For the proofs of
+-- the functions that are lent the record (`Thin.antt`).
 --     answer-row, answer-val        the answer's type, and its machine value
 --     answer-made, answer-typed     an answer is owned for nothing, and its machine value has its MIR type
 --     pair-row, pair-mir            the struct as a Rattle type, and as MIR writes it

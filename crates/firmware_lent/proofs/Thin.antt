@@ -1,11 +1,13 @@
--- What the proofs of the functions share that are lent the updater's record by `&mut`. Such a function copies the record out, makes the call on the record by value, stores the record that it hands back, and returns the answer.
+-- What the proofs of the functions share that are lent the updater's record by `&mut`. Such a function copies the record out, makes the
+-- call on the record by value, stores the record that it hands back, and returns the answer.
 -- The first part is of any function whose `&mut` parameters are either given up to one callee or closed by the function:
---     stay-said            at exit the function has of a parameter what its contract says of it, and no more. A callee's `lasts` is just that, for each parameter that was passed on
+--     stay-said            at exit the function has of a parameter what its contract says of it, and no more. A callee's `lasts` is
+--                          just that, for each parameter that was passed on
 --     all-said, all-fit, all-go     the same for all parameters: the `Stays`, the `Fit` and the `AllGo` of any function
 --     tokens               the tokens of a signature's lifetimes, as an entry of a context
 --     others               the parameters' types but the first's
 --     implies              a fact gives another, for a clause that is not the callee's by computation
--- The second is of the record. What a callee hands back is in `Returned.antt`:
+-- The second is of the record. What a callee hands back is in `Returned.antt`, the rest of what the walks share in `Frame.antt`:
 --     uv, u-typed          the machine value of a record, and that it has its MIR type
 --     Cell, Lent, Opened   what lies behind the reference at a record; what the reference owns; and what is had of it while it is open
 --     record-out           the reference is opened: the record's cell is had
@@ -49,7 +51,8 @@ abbrev pub all-said : {n : ℕ} (ss : List (Slot n)) (ks : Kepts ss) → Stays s
 all-said [] ks = tt
 all-said (s ∷ ss) ks = (stay-said s (ks .0), all-said ss (ks .1))
 
-abbrev pub all-fit : {n : ℕ} (κs : Lfts n) (ss : List (Slot n)) (ks : Kepts ss) (a : Denots (typesAt ss κs)) (ws : Fins κs ss ks a) → fitsOf κs ss ks (all-said ss ks) a ws
+abbrev pub all-fit : {n : ℕ} (κs : Lfts n) (ss : List (Slot n)) (ks : Kepts ss) (a : Denots (typesAt ss κs)) (ws : Fins κs ss ks a)
+    → fitsOf κs ss ks (all-said ss ks) a ws
 all-fit κs [] ks a ws = tt
 all-fit κs (s ∷ ss) ks a ws = (tt, all-fit κs ss (ks .1) (a .1) (ws .1))
 
@@ -87,18 +90,24 @@ abbrev pub Lent : Lft → RefT Updater → Fml
 Lent κ x = MutRef (named 0) κ U.the-row .own x (vptr (x .ptr .0) (x .ptr .1) ∷ [])
 
 abbrev pub Opened : Lft → Share → RefT Updater → Fml
-Opened κ q x = fsep (fobor κ q (Body (mem U.the-row) (x .ptr .0) (x .ptr .1) (x .name))) (fsep (fobs (x .name) (U.the-row .coded .code (x .now))) (fauth (x .name) (U.the-row .coded .code (x .now))))
+Opened κ q x =
+    fsep (fobor κ q (Body (mem U.the-row) (x .ptr .0) (x .ptr .1) (x .name)))
+    (fsep (fobs (x .name) (U.the-row .coded .code (x .now))) (fauth (x .name) (U.the-row .coded .code (x .now))))
 
 module _ {M : Type 1} {𝓤 : URA M} {H : Heap 𝓤} {A : Atoms 𝓤} {K : Type 0} {W : Given 𝓤 H A} {Γ : List (Item 𝓤)} {G : Goal 𝓤 H} where
-  pub record-out : K → Soaks G → {κ : Lft} {q : Share} (x : RefT Updater) → (Is U.the-row (x .now) (uv (x .now) ∷ []) → Seq K W (‵ (Cell x (x .now)) ∷ ‵ (Opened κ q x) ∷ Γ) G)
+  pub record-out : K → Soaks G → {κ : Lft} {q : Share} (x : RefT Updater)
+      → (Is U.the-row (x .now) (uv (x .now) ∷ []) → Seq K W (‵ (Cell x (x .now)) ∷ ‵ (Opened κ q x) ∷ Γ) G)
       → Seq K W (‵ (Lent κ x) ∷ ‵ (flft κ q) ∷ Γ) G
   record-out t z x k =
       fsplit3 t $ drop t $ opens t z U.the-row {h = x .now} (x .ptr .0) (x .ptr .1) (λ vs.
-      spelt t U.the-row (Is U.the-row) (shows 𝓤 H A U.the-row) (LL.vals U.the-type U′.the-laws) (LL.tells U.the-type U′.the-laws) fullShare (x .now) vs (x .ptr .0) (x .ptr .1) $
-      move t (1 ∷ []) $ facts t U.the-row (Is U.the-row) (shows 𝓤 H A U.the-row) (x .now) (uv (x .now) ∷ []) (λ is. move t (1 ∷ 2 ∷ 3 ∷ []) $ fjoin3 t $ move t (1 ∷ 0 ∷ []) $ k is))
+      spelt t U.the-row (Is U.the-row) (shows 𝓤 H A U.the-row) (LL.vals U.the-type U′.the-laws) (LL.tells U.the-type U′.the-laws) fullShare
+      (x .now) vs (x .ptr .0) (x .ptr .1) $
+      move t (1 ∷ []) $ facts t U.the-row (Is U.the-row) (shows 𝓤 H A U.the-row) (x .now) (uv (x .now) ∷ []) (λ is.
+      move t (1 ∷ 2 ∷ 3 ∷ []) $ fjoin3 t $ move t (1 ∷ 0 ∷ []) $ k is))
 
   pub record-in : K → Soaks G → {κ : Lft} {q : Share} (x : RefT Updater) (h : Updater) → Is U.the-row h (uv h ∷ [])
       → Step K W (‵ (fres (x .name) (U.the-row .coded .code h)) ∷ ‵ (flft κ q) ∷ Γ) G (‵ (Cell x h) ∷ ‵ (Opened κ q x) ∷ Γ) G
   record-in t z x h is = step (λ s.
-      move t (1 ∷ []) $ fsplit3 t $ owned t U.the-row (Is U.the-row) (LL.makes U.the-type U′.the-plain 𝓤 H A) h (uv h ∷ []) is $ move t (4 ∷ 0 ∷ []) $ closes t z U.the-row h (uv h ∷ []) (x .ptr .0) (x .ptr .1) $
+      move t (1 ∷ []) $ fsplit3 t $ owned t U.the-row (Is U.the-row) (LL.makes U.the-type U′.the-plain 𝓤 H A) h (uv h ∷ []) is $
+      move t (4 ∷ 0 ∷ []) $ closes t z U.the-row h (uv h ∷ []) (x .ptr .0) (x .ptr .1) $
       move t (1 ∷ []) $ drop t $ use1 W (‵ (fres (x .name) (U.the-row .coded .code h))) (W .names .obs-res (x .name) (U.the-row .coded .code h)) $ s)

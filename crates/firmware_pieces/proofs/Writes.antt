@@ -1,19 +1,18 @@
 -- Laws of runs that remember: two runs one after the other, an erase, a write, and a whole piece. Assumes nothing.
 use mathlib.Core.Path.{_≡_, refl, ap, _∙_, sym}
-use mathlib.Core.Bool.{Bool, true, false}
+use mathlib.Core.Bool.{true, false}
 use mathlib.Core.List.{List, [], _∷_, _++_}
 use Prim.Native.Nat.{ℕ, zero, suc, _+_, _-_, _*_, _/_, _≤_, _<_}
 use native.Mathlib.Nat.{mul-div-cancel}
 use native.Mathlib.Omega.{arith}
-use lib.Dec.{leb, eqb}
-use lib.ListN.{length, take, drop}
+use lib.ListN.{length, take}
 use lib.Seq.{take-all, take-append-add, take-append-le}
 use borrow.Author.Tests.{eqb-true, leb-false}
 use Rattle.state.specs.Choice.{pick}
 use Rattle.mem_flash.specs.declared.Budget.{Budget}
 use Rattle.mem_flash.specs.declared.Flow.{Flow}
 use Rattle.mem_flash.specs.declared.Flow.the-variants.{On, Cut}
-use Rattle.mem_flash.specs.Flash.{Area, dfu, Op, erase, write, change, eraseOps}
+use Rattle.mem_flash.specs.Flash.{dfu, Op, write, change, eraseOps}
 use Rattle.mem_flash.specs.Run.{flash, on, ended, run, placed, InArea, unitOp, writeOps}
 use Rattle.mem_flash.proofs.Runs.{then-on, then-cut, ran, erase-one}
 use Rattle.rules.specs.declared.Sector.{Sector}

@@ -1,6 +1,5 @@
 -- `past_end`: the difference decides as the sum does. Assumes nothing.
 use Rattle.firmware_pieces.proofs.Ranges.{past-short, past-sum}
-use borrow.Author.Needs.{needs}
 use Rattle.firmware_pieces.proofs.range.past_end.Statement.{statement}
 use Rattle.firmware_pieces.proofs.range.past_end.Tie as tie
 
