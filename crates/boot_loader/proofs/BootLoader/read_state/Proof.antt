@@ -1,45 +1,44 @@
 use mathlib.Core.Path.{refl, ap, sym}
 use mathlib.Core.Option.{some}
 use mathlib.Core.List.{[]}
+use borrow.Author.Needs.{needs}
 use Rattle.mem_flash.specs.Run.{flash}
 use Rattle.rules.specs.Boot.{getState}
 use Rattle.rules.proofs.Did.{verdict-admitted, did-refused, did-nothing}
-use borrow.Author.Needs.{needs}
 use Rattle.boot_loader.proofs.BootLoader.read_state.Statement.{statement}
 use Rattle.boot_loader.proofs.BootLoader.read_state.Tie as tie
-use Rattle.boot_loader.proofs.BootLoader.read_state.Reads as reads
-use Rattle.boot_loader.proofs.BootLoader.read_state.Lts as lts
-use Rattle.geometry.proofs.state_verdict.Reads as state-verdict-reads
-use Rattle.state_area.proofs.read.Reads as read-reads
 
--- src/lib.rt:73:13
 state-verdict-requires : tie.Need-state-verdict-requires
-state-verdict-requires c κs = search needs
+state-verdict-requires c κs = tt
 
--- src/lib.rt:74:33
 enum-known-verdict : tie.Need-enum-known-verdict
-enum-known-verdict c = search needs
+enum-known-verdict c = c .match .keys1
 
--- src/lib.rt:75:13
 returns : tie.Need-returns
 unfolding getState
-returns c = let a = c .before .before .before .before .before .before .args in did-refused (getState (a .self .geometry .es) (a .self .geometry .ws) (a .state .now)) 0 (flash [] [] []) _ _ (c .before .before .before .state-verdict .ensures) (c .before .verdict .given .1) .answer
+returns c =
+    let v = c .before .before .before in
+    let a = v .before .before .before .args in
+    did-refused (getState (a .self .geometry .es) (a .self .geometry .ws) (a .state .now)) 0 (flash [] [] []) _ _ (v .state-verdict .ensures)
+    (c .before .verdict .given .1) .answer
 
 enum-told : tie.Need-enum-told
-enum-told c = search needs
+enum-told c = c .match .keys2
 
--- src/lib.rt:77:47
 cast-read : tie.Need-cast-read
 cast-read c = search needs
 
--- src/lib.rt:77:23
 read-requires : tie.Need-read-requires
-read-requires c κs = search needs
+read-requires c κs = tt
 
--- src/lib.rt:69:5
 returns-2 : tie.Need-returns-2
 unfolding getState
-returns-2 c = let a = c .before .before .before .before .before .before .before .args in did-nothing (getState (a .self .geometry .es) (a .self .geometry .ws) (a .state .now)) 0 (flash [] [] []) (verdict-admitted _ _ (c .before .before .before .before .state-verdict .ensures) (c .before .before .enum-told .given .1)) _ (ap some (sym (c .read .ensures))) refl .answer
+returns-2 c =
+    let t = c .before .before in
+    let v = t .before .before in
+    let a = v .before .before .before .args in
+    did-nothing (getState (a .self .geometry .es) (a .self .geometry .ws) (a .state .now)) 0 (flash [] [] [])
+    (verdict-admitted _ _ (v .state-verdict .ensures) (t .enum-told .given .1)) _ (ap some (sym (c .read .ensures))) refl .answer
 
 pub read-state-spec : {M : Type 1} → statement M
 read-state-spec =

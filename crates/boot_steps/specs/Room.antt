@@ -10,7 +10,6 @@ pub record Room (g : Geometry) (i from m to n s : ℕ) : Type 0 where
   pub word : 0 < g .ws
   pub chunk : 0 < g .b
   pub chunks : page g / g .b * g .b ≡ page g
-  pub words : 3 * g .ws ≤ s
   pub mark : (2 + i) * g .ws + g .ws ≤ s
   pub source : from * page g + page g ≤ m
   pub target : to * page g + page g ≤ n

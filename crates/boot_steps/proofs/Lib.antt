@@ -1,0 +1,5 @@
+pub mod Progress
+pub mod Room
+pub mod Copies
+pub mod Steps
+pub mod Turns
