@@ -21,6 +21,7 @@ use Rattle.mem_flash.specs.declared.Flow.{Flow}
 use Rattle.mem_flash.specs.declared.Flow.the-variants as flows
 use Rattle.mem_flash.specs.Flash.{Flash, Op, applyAll, after}
 use Rattle.mem_flash.specs.Run.{on, outcome, Ran}
+use Rattle.mem_flash.proofs.After.{after-none}
 use Rattle.rules.specs.declared.Answer.{Answer}
 use Rattle.rules.specs.declared.Answer.the-variants.{Found, Done, Refused, Cut}
 use Rattle.rules.specs.Calls.{Call, reported, report, left, Did}
@@ -79,19 +80,14 @@ module _ (c : Call) (k : ℕ) (f : Flash) where
     admits : eqb (c .refusal) 0 ≡ true
     admits = eq-eqb _ _ a
 
-    none-done : (k : ℕ) → f ≡ after k [] f
-    unfolding after applyAll
-    none-done zero = refl
-    none-done (suc k) = refl
-
     -- a call without operations
     pub did-nothing : (s : State) → c .state ≡ some s → c .ops ≡ [] → Did c k f f (Found s 0)
     unfolding report left reported pick
-    did-nothing s e o = record { answer = rw (admits, o, leb·zero k, e); flash = rw (admits, o) (none-done k) }
+    did-nothing s e o = record { answer = rw (admits, o, leb·zero k, e); flash = rw (admits, o) (sym (after-none k f)) }
 
     pub did-idle : c .state ≡ none → c .ops ≡ [] → Did c k f f (Done 0)
     unfolding report left reported pick
-    did-idle e o = record { answer = rw (admits, o, leb·zero k, e); flash = rw (admits, o) (none-done k) }
+    did-idle e o = record { answer = rw (admits, o, leb·zero k, e); flash = rw (admits, o) (sym (after-none k f)) }
 
     module _ (f₁ : Flash) (r : Flow) (w : Ran k (c .ops) f f₁ r) where
       pub did-cut : r ≡ flows.Cut → Did c k f f₁ (Cut k)

@@ -3,3 +3,8 @@ pub mod StateWords
 pub mod Unique
 pub mod Did
 pub mod Tables
+pub mod Endings
+pub mod Pages
+pub mod Spread
+pub mod MarkedArea
+pub mod MarkWritten

@@ -1,0 +1,72 @@
+-- Laws of a copy in chunks, byte by byte: it stays within its stretch, and a stretch that is erased and filled in chunks holds the
+-- source's bytes, whatever it held. Assumes nothing.
+use mathlib.Core.Path.{_≡_, sym, ap, _∙_, subst}
+use mathlib.Core.List.{List, _++_, append-assoc}
+use Prim.Native.Nat.{ℕ, zero, suc, _+_, _*_, _≤_}
+use native.Mathlib.Nat.{zero-mul, suc-mul, min-le-left}
+use native.Mathlib.Omega.{arith}
+use lib.ListN.{length, take, drop, replicate, length-append, length-take, length-drop, replicate-append-replicate}
+use lib.Seq.{drop-drop, take-add, length-take-le}
+use Rattle.state.specs.Magic.{erased}
+use Rattle.mem_flash.specs.Flash.{erasedAt, writtenAt}
+use Rattle.mem_flash.specs.Areas.{Bytes}
+use Rattle.mem_flash.proofs.Stretches.{bytes-take, bytes-drop, erased-within, Beside, beside-written, erased-beside, written-erased}
+
+-- n chunks of b bytes written one after the other
+unfoldable pub chunked : ℕ → ℕ → ℕ → ℕ → List ℕ → List ℕ → List ℕ
+chunked zero at from b source xs = xs
+chunked (suc n) at from b source xs = chunked n (at + b) (from + b) b source (writtenAt at (take b (drop from source)) xs)
+
+pub beside-chunked : (at n b : ℕ) (source xs : List ℕ) → at + n ≤ length xs → (j p from : ℕ) (ys : List ℕ) → at ≤ p
+    → p + j * b ≤ at + n
+    → Beside at n xs ys → Beside at n xs (chunked j p from b source ys)
+unfolding chunked
+beside-chunked at n b source xs fit zero p from ys lo hi h = h
+beside-chunked at n b source xs fit (suc j) p from ys lo hi h =
+    let bs : List ℕ = take b (drop from source) in
+    let l : length bs ≤ b = simp length-take (min-le-left b (length (drop from source))) in
+    let m : p + (j * b + b) ≤ at + n = rw suc-mul at hi in
+    beside-chunked at n b source xs fit j (p + b) (from + b) (writtenAt p bs ys) (omega arith) (omega arith)
+    (beside-written at n p bs xs ys lo (omega arith) fit h)
+
+-- on an erased stretch the chunks leave the source's bytes
+chunked-erased : (n at from b : ℕ) (source before behind : List ℕ) → length before ≡ at → Bytes source
+    → from + n * b ≤ length source
+    → chunked n at from b source (before ++ (replicate (n * b) erased ++ behind))
+    ≡ before ++ (take (n * b) (drop from source) ++ behind)
+unfolding chunked
+chunked-erased zero at from b source before behind e h fit = rw (zero-mul b)
+chunked-erased (suc n) at from b source before behind e h fit =
+    let bs : List ℕ = take b (drop from source) in
+    let fit′ : from + (n * b + b) ≤ length source = rw suc-mul at fit in
+    let l : length bs ≡ b = length-take-le b (drop from source) (simp length-drop (omega arith)) in
+    let c : suc n * b ≡ b + n * b = omega arith in
+    let rest : List ℕ = replicate (n * b) erased ++ behind in
+    ap (λ (k : ℕ). chunked n (at + b) (from + b) b source (writtenAt at bs (before ++ (replicate k erased ++ behind)))) c
+    ∙ ap (λ (r : List ℕ). chunked n (at + b) (from + b) b source (writtenAt at bs (before ++ r)))
+    (ap (λ (r : List ℕ). r ++ behind) (sym (replicate-append-replicate b (n * b) erased))
+    ∙ append-assoc (replicate b erased) (replicate (n * b) erased) behind)
+    ∙ ap (chunked n (at + b) (from + b) b source)
+    (written-erased before bs rest at b e l (bytes-take b (drop from source) (bytes-drop from source h))
+    ∙ sym (append-assoc before bs rest))
+    ∙ chunked-erased n (at + b) (from + b) b source (before ++ bs) behind (simp length-append (omega arith)) h (omega arith)
+    ∙ append-assoc before bs (take (n * b) (drop (from + b) source) ++ behind)
+    ∙ ap (λ (r : List ℕ). before ++ r)
+    (sym (append-assoc bs (take (n * b) (drop (from + b) source)) behind)
+    ∙ ap (λ (r : List ℕ). r ++ behind)
+    (ap (λ (r : List ℕ). bs ++ take (n * b) r) (sym (drop-drop b from source))
+    ∙ sym (take-add b (n * b) (drop from source))
+    ∙ ap (λ (k : ℕ). take k (drop from source)) (sym c)))
+
+-- a page erased and filled in chunks holds the source's page, whatever it held
+pub filled : (n at from b p : ℕ) (source xs ys : List ℕ) → n * b ≡ p → Bytes source → from + p ≤ length source
+    → at + p ≤ length xs
+    → Beside at p xs ys
+    → chunked n at from b source (erasedAt at p ys) ≡ take at xs ++ (take p (drop from source) ++ drop (at + p) xs)
+filled n at from b p source xs ys e h hs ht near =
+    ap (chunked n at from b source) (erased-beside at p xs ys ht near ∙ erased-within at p xs ht)
+    ∙ subst
+    (λ (z : ℕ). chunked n at from b source (take at xs ++ (replicate z erased ++ drop (at + p) xs))
+    ≡ take at xs ++ (take z (drop from source) ++ drop (at + p) xs))
+    e
+    (chunked-erased n at from b source (take at xs) (drop (at + p) xs) (length-take-le at xs (omega arith)) h (omega arith))

@@ -1,0 +1,95 @@
+-- What a call tells and leaves, by the way it ends: refused, done or cut. Assumes nothing.
+use mathlib.Core.Path.{_≡_, ap}
+use mathlib.Core.Bool.{Bool, true, false}
+use mathlib.Core.Option.{none}
+use mathlib.Core.List.{List, [], _∷_}
+use Prim.Native.Nat.{ℕ, suc, _+_, _≤_, _<_, zero-le}
+use native.Mathlib.Nat.{lt-of-not-le}
+use native.Mathlib.Decide.{decLe}
+use native.Mathlib.Omega.{arith}
+use lib.Dec.{lit<}
+use lib.ListN.{length}
+use borrow.Author.Tests.{eq-eqb, ne-eqb, le-leb, lt-leb}
+use Rattle.state.specs.Choice.{pick}
+use Rattle.geometry.specs.declared.Geometry.{Geometry}
+use Rattle.geometry.specs.declared.Sizes.{Sizes}
+use Rattle.geometry.specs.Refusals.{rowFrom, lowest, bootRefusal, stateRefusal, updaterRefusal}
+use Rattle.mem_flash.specs.Flash.{Flash, after}
+use Rattle.rules.specs.Calls.{Report, Call, report, left}
+
+-- ---- the three ways a call ends
+
+module _ (c : Call) (k : ℕ) where
+  pub report-refused : 0 < c .refusal → report c k ≡ record { number = c .refusal; state = none; count = 0 }
+  unfolding report pick
+  report-refused h = rw (ne-eqb (c .refusal) 0 (λ e. omega arith))
+
+  pub report-done : c .refusal ≡ 0 → length (c .ops) ≤ k
+      → report c k ≡ record { number = 0; state = c .state; count = length (c .ops) }
+  unfolding report pick
+  report-done e h = rw (eq-eqb (c .refusal) 0 e, le-leb (length (c .ops)) k h)
+
+  pub report-cut : c .refusal ≡ 0 → k < length (c .ops) → report c k ≡ record { number = 7; state = none; count = k }
+  unfolding report pick
+  report-cut e h = rw (eq-eqb (c .refusal) 0 e, lt-leb (length (c .ops)) k h)
+
+  pub left-refused : (f : Flash) → 0 < c .refusal → left c k f ≡ f
+  unfolding left pick
+  left-refused f h = rw (ne-eqb (c .refusal) 0 (λ e. omega arith))
+
+  pub left-admitted : (f : Flash) → c .refusal ≡ 0 → left c k f ≡ after k (c .ops) f
+  unfolding left pick
+  left-admitted f e = rw (eq-eqb (c .refusal) 0 e)
+
+pub data Ending (c : Call) (k : ℕ) : Type 0 where
+  refused : 0 < c .refusal → Ending c k
+  done : c .refusal ≡ 0 → length (c .ops) ≤ k → Ending c k
+  cut : c .refusal ≡ 0 → k < length (c .ops) → Ending c k
+
+pub ending : (c : Call) (k : ℕ) → Ending c k
+ending c k = go (decLe 1 (c .refusal)) (decLe (length (c .ops)) k)
+  where
+    go : Dec (1 ≤ c .refusal) → Dec (length (c .ops) ≤ k) → Ending c k
+    go (yes r) d = refused r
+    go (no r) (yes l) = done (omega (arith, lt-of-not-le r)) l
+    go (no r) (no l) = cut (omega (arith, lt-of-not-le r)) (lt-of-not-le l)
+
+-- ---- the laws
+
+abbrev pub numberOf : Report → ℕ
+numberOf t = t .number
+
+module _ (c : Call) (table : c .refusal < 7) where
+  pub is-cut : (k : ℕ) → Ending c k → report c k .number ≡ 7 → (c .refusal ≡ 0) × (k < length (c .ops))
+  is-cut k (refused r) e = absurd (omega (arith, ap numberOf (report-refused c k r)))
+  is-cut k (done z l) e = absurd (omega (arith, ap numberOf (report-done c k z l)))
+  is-cut k (cut z l) e = (z, l)
+
+  pub is-done : (k : ℕ) → Ending c k → report c k .number ≡ 0 → (c .refusal ≡ 0) × (length (c .ops) ≤ k)
+  is-done k (refused r) e = absurd (omega (arith, ap numberOf (report-refused c k r)))
+  is-done k (done z l) e = (z, l)
+  is-done k (cut z l) e = absurd (omega (arith, ap numberOf (report-cut c k z l)))
+
+-- ---- the calls of the crate: the table of each has no row 7
+
+row-most : (n : ℕ) (bs : List Bool) → rowFrom (suc n) bs ≤ n + length bs
+unfolding rowFrom pick
+row-most n [] = zero-le
+row-most n (true ∷ bs) = omega arith
+row-most n (false ∷ bs) = omega (arith, row-most (suc n) bs)
+
+lowest-below : (bs : List Bool) → length bs < 7 → lowest bs < 7
+unfolding lowest
+lowest-below bs h = omega (arith, row-most 0 bs)
+
+pub boot-rows : (g : Geometry) (la ld ls : ℕ) → bootRefusal g la ld ls < 7
+unfolding bootRefusal
+boot-rows g la ld ls = lowest-below _ (lit< tt)
+
+pub state-rows : (es ws ls : ℕ) → stateRefusal es ws ls < 7
+unfolding stateRefusal
+state-rows es ws ls = lowest-below _ (lit< tt)
+
+pub updater-rows : (z : Sizes) (ld ls : ℕ) (swap range : Bool) → updaterRefusal z ld ls swap range < 7
+unfolding updaterRefusal
+updater-rows z ld ls swap range = lowest-below _ (lit< tt)
