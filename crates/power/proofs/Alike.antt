@@ -1,10 +1,10 @@
 -- Two flashes that differ only in what active and DFU hold: their boots have the same operations but for the bytes written to an
 -- image, so they answer alike (specs/Alike). The other calls have the very same operations. Assumes nothing.
-use mathlib.Core.Path.{_≡_, refl, sym, ap, ap₂, _∙_, subst}
+use mathlib.Core.Path.{_≡_, refl, sym, ap, ap₂, _∙_, subst, subst₂}
 use mathlib.Core.Bool.{Bool, true, false}
 use mathlib.Core.Option.{Option, none, some}
 use mathlib.Core.List.{List, [], _∷_, _++_}
-use Prim.Native.Nat.{ℕ, zero, suc, _+_, _-_, _*_, _/_}
+use Prim.Native.Nat.{ℕ, zero, suc, _+_, _*_, _/_}
 use lib.ListN.{length, take, drop, length-take, length-drop}
 use lib.Dec.{eqb, leb, ltb}
 use Rattle.state.specs.declared.State.{State}
@@ -16,6 +16,8 @@ use Rattle.geometry.specs.declared.Sizes.{Sizes}
 use Rattle.geometry.specs.Geometry.{page, pages}
 use Rattle.geometry.specs.Refusals.{bootRefusal, updaterRefusal}
 use Rattle.mem_flash.specs.Flash.{Area, active, dfu, state, Flash, Op, erase, write, erasedAt, writtenAt, change, apply, applyAll, after, eraseOps}
+use Rattle.mem_flash.proofs.Stretches.{length-erased, length-written}
+use Rattle.mem_flash.proofs.After.{after-none, after-first, after-next}
 use Rattle.rules.specs.StateArea.{readState, progress, markOp, invalidateOp}
 use Rattle.rules.specs.Steps.{Copy, sourceOf, unitOf, chunkOps, fillOps, copyOps, onceOps, copiesOps, swapSteps, revertSteps, pageCount, swapOps, revertOps}
 use Rattle.rules.specs.Calls.{Report, Call, report, left}
@@ -23,7 +25,6 @@ use Rattle.rules.specs.Boot.{renewOps, finishOps, swapOrRevertOps, confirming, 
 use Rattle.rules.specs.FirmwareState.{setMagicOps, mark}
 use Rattle.rules.specs.FirmwareUpdater.{pieces, piecesOps, remembered, pending, pastEnd, badRange, updaterCall, updaterGetState, updaterMark, updaterMarkUpdated, updaterMarkDfu, updaterMarkBooted, readDfu, writeFirmware, memory, prepareUpdate}
 use Rattle.power.specs.Alike.{Alike, SameAnswers, ImagesAside}
-use Rattle.power.proofs.Bytes.{length-erased, length-written}
 
 -- ---- operations that are alike
 
@@ -107,11 +108,16 @@ alike-count nothing = refl
 alike-count (erases r) = ap suc (alike-count r)
 alike-count (writes l r) = ap suc (alike-count r)
 
-alike-take : (k : ℕ) {os ps : List Op} → AlikeOps os ps → AlikeOps (take k os) (take k ps)
-alike-take zero r = nothing
-alike-take (suc k) nothing = nothing
-alike-take (suc k) (erases r) = erases (alike-take k r)
-alike-take (suc k) (writes l r) = writes l (alike-take k r)
+-- and so is what a cut leaves of them
+alike-after : (k : ℕ) {os ps : List Op} → AlikeOps os ps → (f h : Flash) → Alike f h → Alike (after k os f) (after k ps h)
+alike-after zero {os} {ps} r f h e = subst₂ Alike (sym (after-first os f)) (sym (after-first ps h)) e
+alike-after (suc k) nothing f h e = subst₂ Alike (sym (after-none (suc k) f)) (sym (after-none (suc k) h)) e
+alike-after (suc k) (erases {a = a} {at = at} {n = n} {os = os} {ps = ps} r) f h e =
+    subst₂ Alike (sym (after-next k (erase a at n) os f)) (sym (after-next k (erase a at n) ps h))
+    (alike-after k r (apply (erase a at n) f) (apply (erase a at n) h) (apply-erase a at n f h e))
+alike-after (suc k) (writes {a = a} {at = at} {xs = xs} {ys = ys} {os = os} {ps = ps} l r) f h e =
+    subst₂ Alike (sym (after-next k (write a at xs) os f)) (sym (after-next k (write a at ys) ps h))
+    (alike-after k r (apply (write a at xs) f) (apply (write a at ys) h) (apply-write a at xs ys f h l e))
 
 alike-append : {os ps : List Op} → AlikeOps os ps → (us vs : List Op) → AlikeOps us vs → AlikeOps (os ++ us) (ps ++ vs)
 alike-append nothing us vs s = s
@@ -234,13 +240,13 @@ left-alike false f f′ h h′ e e′ = e′
 -- two calls with the same refusal, the same state and operations that are alike
 same-answers : (c d : Call) (f h : Flash) → c .refusal ≡ d .refusal → c .state ≡ d .state → AlikeOps (c .ops) (d .ops) → Alike f h
     → SameAnswers c d f h
-unfolding told report left after
+unfolding told report left
 same-answers c d f h r s o e =
     record {
       answers = λ k. λ i. told (r i) (s i) (alike-count o i) k;
       leaves = λ k.
           subst (λ (n : ℕ). Alike (left c k f) (pick (eqb n 0) (after k (d .ops) h) h)) r
-          (left-alike (eqb (c .refusal) 0) (after k (c .ops) f) f (after k (d .ops) h) h (alike-all (alike-take k o) f h e) e);
+          (left-alike (eqb (c .refusal) 0) (after k (c .ops) f) f (after k (d .ops) h) h (alike-after k o f h e) e);
     }
 
 -- a call of the updater, by what it takes from the DFU's length and from the state bytes

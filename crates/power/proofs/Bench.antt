@@ -18,7 +18,8 @@ use Rattle.rules.proofs.Sheet.{swapped-sheet, reverted-sheet}
 use Rattle.power.specs.Power.{Marked, Ready}
 use Rattle.power.specs.Bench.{noPages, OnTheBench, fine, fineCase, finely, InUnits, confirmation, Unconfirmed}
 use Rattle.power.specs.Confirm.{Swapped, firmware-state, CutConfirmation, confirmedPart, confirmedWhole}
-use Rattle.power.proofs.Proved.{power, no-pages}
+use Rattle.power.proofs.Proved.{power}
+use Rattle.power.proofs.NoPages.{no-pages}
 use Rattle.power.proofs.Confirmed.{confirming as cut-confirmed}
 
 ready : Ready (sizes 16) (fresh 15)

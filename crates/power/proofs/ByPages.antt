@@ -1,52 +1,25 @@
 -- The swap table and the revert's images page by page (specs/Pages): `never-mixed`. Assumes nothing.
-use mathlib.Core.Path.{_≡_, refl, sym, ap, _∙_, subst}
+use mathlib.Core.Path.{_≡_, refl, sym, subst}
 use mathlib.Core.Logic.{inl, inr}
 use mathlib.Core.List.{List, _++_}
-use Prim.Native.Nat.{ℕ, _+_, _-_, _*_, _≤_}
+use Prim.Native.Nat.{ℕ, _+_, _-_}
 use native.Mathlib.Numerals.{add-one}
 use native.Mathlib.Omega.{arith}
-use lib.ListN.{length, take, drop, length-append, length-drop}
-use lib.Seq.{take-at, drop-at, length-take-le, drop-append-add}
+use lib.ListN.{length, take, drop}
+use lib.Seq.{take-at, length-take-le}
 use Rattle.geometry.specs.declared.Geometry.{Geometry}
 use Rattle.geometry.specs.Geometry.{page, words}
 use Rattle.mem_flash.specs.Flash.{Flash}
 use Rattle.rules.specs.Steps.{pageCount}
-use Rattle.rules.specs.Power.{pageAt, withPage, swapTable, revertImages, revertMarks}
+use Rattle.rules.specs.Power.{pageAt, swapTable, revertImages, revertMarks}
+use Rattle.rules.proofs.Pages.{pages-le, length-page, page-put, before-put, behind-put, length-put}
+use Rattle.way.proofs.Images.{newDfu, images, behind}
+use Rattle.way.proofs.Sized.{Sized, sized}
+use Rattle.way.proofs.Finish.{closed}
 use Rattle.power.specs.Power.{Ready, ran, runs}
 use Rattle.power.specs.Pages.{SwappedPages, RevertedPages, NeverMixed}
-use Rattle.power.proofs.Pages.{pages-le}
-use Rattle.power.proofs.Start.{newDfu, images, behind, Sized, sized}
-use Rattle.power.proofs.Finish.{closed}
-use Rattle.power.proofs.Proved.{Turns, revertedDfu, turns, power}
-
-length-page : (p k : ℕ) (xs : List ℕ) → k * p + p ≤ length xs → length (pageAt p k xs) ≡ p
-unfolding pageAt
-length-page p k xs fit = length-take-le p (drop (k * p) xs) (simp length-drop (omega arith))
-
--- an image with a page put in: that page, what lies before and behind it, and its length
-module _ (p k : ℕ) (bytes xs : List ℕ) (l : length bytes ≡ p) (fit : k * p + p ≤ length xs) where
-  before : length (take (k * p) xs) ≡ k * p
-  before = length-take-le (k * p) xs (omega arith)
-
-  page-put : pageAt p k (withPage p k bytes xs) ≡ bytes
-  unfolding pageAt withPage
-  page-put =
-      rw (drop-at (take (k * p) xs) (bytes ++ drop (k * p + p) xs) (k * p) before) (take-at bytes (drop (k * p + p) xs) p l)
-
-  before-put : take (k * p) (withPage p k bytes xs) ≡ take (k * p) xs
-  unfolding withPage
-  before-put = take-at (take (k * p) xs) (bytes ++ drop (k * p + p) xs) (k * p) before
-
-  behind-put : drop (k * p + p) (withPage p k bytes xs) ≡ drop (k * p + p) xs
-  unfolding withPage
-  behind-put =
-      let e : k * p + p ≡ length (take (k * p) xs) + p = omega (arith, before) in
-      ap (λ (i : ℕ). drop i (take (k * p) xs ++ (bytes ++ drop (k * p + p) xs))) e
-      ∙ drop-append-add (take (k * p) xs) (bytes ++ drop (k * p + p) xs) p ∙ drop-at bytes (drop (k * p + p) xs) p l
-
-  length-put : length (withPage p k bytes xs) ≡ length xs
-  unfolding withPage
-  length-put = simp (length-append, length-drop) (omega (arith, before))
+use Rattle.power.proofs.Reverts.{Turns}
+use Rattle.power.proofs.Proved.{revertedDfu, turns, power}
 
 module _ (g : Geometry) (f : Flash) (r : Ready g f) where
   s : Sized g f (words (g .ws) (length (f .state)) - 2)

@@ -6,11 +6,11 @@ use mathlib.Core.Bool.{Bool, true}
 use mathlib.Core.Option.{some}
 use mathlib.Core.Logic.{_⊎_, inl, inr}
 use mathlib.Core.List.{List, [], _∷_, _++_}
-use Prim.Native.Nat.{ℕ, zero, suc, _+_, _-_, _*_, _/_, _≤_, _<_}
+use Prim.Native.Nat.{ℕ, zero, suc, _+_, _-_, _*_, _≤_, _<_}
 use native.Mathlib.Nat.{zero-mul, mul-le-mul-right, lt-of-not-le}
 use native.Mathlib.Decide.{decLe}
 use native.Mathlib.Omega.{arith}
-use lib.ListN.{length, take, replicate}
+use lib.ListN.{length, replicate}
 use Rattle.state.specs.declared.State.{State}
 use Rattle.state.specs.declared.State.the-variants.{Boot, Swap, Revert}
 use Rattle.state.specs.Choice.{pick}
@@ -18,6 +18,7 @@ use Rattle.state.specs.Magic.{erased, marked, magic, throughout}
 use Rattle.geometry.specs.declared.Geometry.{Geometry}
 use Rattle.geometry.specs.Geometry.{words}
 use Rattle.mem_flash.specs.Flash.{Flash, Op, blank, writtenAt, applyAll, after}
+use Rattle.mem_flash.proofs.After.{after-all, after-none}
 use Rattle.rules.specs.StateArea.{word, readState, valid, marksDone, invalidateOp}
 use Rattle.rules.specs.Steps.{pageCount}
 use Rattle.rules.specs.Calls.{Call, left}
@@ -25,15 +26,15 @@ use Rattle.rules.specs.Boot.{renewOps, confirming as pending, bootOps}
 use Rattle.rules.specs.FirmwareState.{setMagicOps, mark}
 use Rattle.rules.specs.FirmwareUpdater.{updaterCall, updaterMark, updaterMarkBooted}
 use Rattle.rules.specs.Power.{swapMarks, stateUnits, voidMarks}
+use Rattle.rules.proofs.Spread.{spread, length-spread, boot-reads, area-reads, blank-boot}
+use Rattle.rules.proofs.MarkedArea.{marks, length-marks, reads-swap, done-marks, counted, void, not-booted, confirming-swapped, void-written, swapped-marks, void-marks}
+use Rattle.rules.proofs.Endings.{state-rows, updater-rows, ending, is-cut, left-admitted}
+use Rattle.way.proofs.Finish.{closed, renew-count, renewed, renew-part, void-part}
+use Rattle.way.proofs.Sized.{Sized, sized}
+use Rattle.way.proofs.Wanted.{boot-idle, boot-confirms}
 use Rattle.power.specs.Power.{answer, ran, runs, AllCut}
 use Rattle.power.specs.Confirm.{Swapped, firmware-state, updater, CutConfirmation, confirmedPart, confirmedWhole, unitsErased, Confirms, Confirming}
-use Rattle.power.proofs.Words.{spread, marks, length-spread, length-marks, reads-swap, done-marks, counted, void, not-booted, confirming-swapped, boot-reads, area-reads, blank-boot, void-written}
-use Rattle.power.proofs.Areas.{after-all, after-none}
-use Rattle.power.proofs.Finish.{closed, renew-count, renewed, renew-part, void-part}
-use Rattle.power.proofs.Start.{swapped-marks, void-marks, Sized, sized}
-use Rattle.power.proofs.Cuts.{lawful, state-rows, updater-rows}
 use Rattle.power.proofs.Runs.{Admits, ran-after, admits-after, admits-ran, cut-short, whole-long, answer-done}
-use Rattle.power.proofs.Swapped.{boot-idle, boot-confirms}
 
 no-revert : (s : State) → (s ≡ Swap) ⊎ (s ≡ Boot) → s ≡ Revert → ⊥
 no-revert s (inl e) r = let z : _≡_ {A = ℕ} 0 1 = cc in omega arith
@@ -108,9 +109,9 @@ module _ (g : Geometry) (f : Flash) (s : Swapped g f) where
 
   -- a boot from there, cut after k units, and whole
   start-cut : (k : ℕ) → k ≤ U → after k (bootOps g start) start ≡ confirmedPart g k f
-  unfolding after confirmedPart closed stateUnits
+  unfolding confirmedPart closed stateUnits
   start-cut k h =
-      ap (λ (os : List Op). applyAll (take k os) start) start-wants
+      ap (λ (os : List Op). after k os start) start-wants
       ∙ renew-part (f .active) (f .dfu) (g .es) (g .ws) S (magic Boot) k st₀ h
 
   start-whole : (k : ℕ) → length (bootOps g start) ≤ k → after k (bootOps g start) start ≡ confirmedWhole g f
@@ -133,9 +134,9 @@ module _ (g : Geometry) (f : Flash) (s : Swapped g f) where
 
   -- ---- any budgets
 
-  data Place (x : Flash) : Type 0 where
-    part : (u : ℕ) → u ≤ U → x ≡ confirmedPart g u f → Place x
-    whole : x ≡ confirmedWhole g f → Place x
+  data Midway (x : Flash) : Type 0 where
+    part : (u : ℕ) → u ≤ U → x ≡ confirmedPart g u f → Midway x
+    whole : x ≡ confirmedWhole g f → Midway x
 
   ran-idle : (x : Flash) → Admits g x → readState (g .ws) (x .state) ≡ Boot → (k : ℕ) → ran g k x ≡ x
   ran-idle x a e k = ran-after g k x a ∙ ap (λ (os : List Op). after k os x) (boot-idle g x e) ∙ after-none k x
@@ -146,32 +147,32 @@ module _ (g : Geometry) (f : Flash) (s : Swapped g f) where
   reads-at : (x y : Flash) → x ≡ y → readState (g .ws) (x .state) ≡ readState (g .ws) (y .state)
   reads-at x y e = ap (λ (w : Flash). readState (g .ws) (w .state)) e
 
-  kept : (x : Flash) → Admits g x → Place x → (k : ℕ) → Place (ran g k x)
+  kept : (x : Flash) → Admits g x → Midway x → (k : ℕ) → Midway (ran g k x)
   kept x a (part zero most e) k = go (decLe k U)
     where
-      go : Dec (k ≤ U) → Place (ran g k x)
+      go : Dec (k ≤ U) → Midway (ran g k x)
       go (yes h) = part k h (ran-start x a e k ∙ start-cut k h)
       go (no h) = whole (ran-start x a e k ∙ start-whole k (omega (arith, start-count, lt-of-not-le h)))
   kept x a (part (suc u) most e) k =
       part (suc u) most (ran-idle x a (reads-at x (confirmedPart g (suc u) f) e ∙ part-boot (suc u) (omega arith) most) k ∙ e)
   kept x a (whole e) k = whole (ran-idle x a (reads-at x (confirmedWhole g f) e ∙ whole-boot) k ∙ e)
 
-  all-kept : (ks : List ℕ) (x : Flash) → Admits g x → Place x → Place (runs g ks x)
+  all-kept : (ks : List ℕ) (x : Flash) → Admits g x → Midway x → Midway (runs g ks x)
   unfolding runs
   all-kept [] x a p = p
   all-kept (k ∷ ks) x a p = all-kept ks (ran g k x) (admits-ran g k x a) (kept x a p k)
 
-  place-active : (x : Flash) → Place x → x .active ≡ f .active
+  place-active : (x : Flash) → Midway x → x .active ≡ f .active
   unfolding confirmedPart confirmedWhole
   place-active x (part u most e) = ap (λ (y : Flash). y .active) e
   place-active x (whole e) = ap (λ (y : Flash). y .active) e
 
-  place-dfu : (x : Flash) → Place x → x .dfu ≡ f .dfu
+  place-dfu : (x : Flash) → Midway x → x .dfu ≡ f .dfu
   unfolding confirmedPart confirmedWhole
   place-dfu x (part u most e) = ap (λ (y : Flash). y .dfu) e
   place-dfu x (whole e) = ap (λ (y : Flash). y .dfu) e
 
-  place-reads : (x : Flash) → Place x → readState (g .ws) (x .state) ≡ Revert → ⊥
+  place-reads : (x : Flash) → Midway x → readState (g .ws) (x .state) ≡ Revert → ⊥
   place-reads x (part zero most e) r = no-revert _ (inl (reads-at x start (e ∙ part-none) ∙ start-reads)) r
   place-reads x (part (suc u) most e) r =
       no-revert _ (inr (reads-at x (confirmedPart g (suc u) f) e ∙ part-boot (suc u) (omega arith) most)) r
@@ -244,7 +245,7 @@ module _ (g : Geometry) (f : Flash) (s : Swapped g f) where
             record { reached = c .same; answers = r .0; flash = r .1 };
       }
     where
-      at : (ks : List ℕ) → Place (runs g ks x)
+      at : (ks : List ℕ) → Midway (runs g ks x)
       at ks = all-kept ks x (o .admits) (part u (o .most) (o .same))
 
   -- ---- mark_booted, cut after its invalidation
@@ -263,20 +264,19 @@ module _ (g : Geometry) (f : Flash) (s : Swapped g f) where
 
   module _ (c : Call) (table : c .refusal < 7) (ops : c .ops ≡ setMagicOps (g .es) (g .ws) (magic Boot) (f .state)) where
     mark-cut : (k : ℕ) → CutConfirmation c k → Erased (left c k f) (k - 1)
-    unfolding after closed confirmedPart stateUnits
+    unfolding closed confirmedPart stateUnits
     mark-cut k h =
-        let law = lawful c table in
-        let short = law .cut k (h .cut) .1 in
+        let d = is-cut c table k (ending c k) (h .cut) in
         let n : length (c .ops) ≡ 2 + U =
         ap length (ops ∙ mark-wants) ∙ omega (arith, renew-count (g .es) (g .ws) S (magic Boot)) in
-        let most : k - 1 ≤ U = omega arith in
+        let most : k - 1 ≤ U = omega (arith, d .1) in
         let e : k ≡ suc (k - 1) = omega (arith, h .invalidated) in
-        let leaves : left c k f ≡ after k (c .ops) f = law .cut-leaves k f (h .cut) .0 in
+        let leaves : left c k f ≡ after k (c .ops) f = left-admitted c k f (d .0) in
         record {
           most = most;
           same =
               leaves
-              ∙ ap₂ (λ (i : ℕ) (os : List Op). applyAll (take i os) f) e (ops ∙ mark-wants)
+              ∙ ap₂ (λ (i : ℕ) (os : List Op). after i os f) e (ops ∙ mark-wants)
               ∙ void-part (f .active) (f .dfu) (g .es) (g .ws) S (magic Boot) (k - 1) (f .state) most
               ∙ ap (λ (st : List ℕ). closed (f .active) (f .dfu) (blank ((k - 1) * g .es) st)) invalid-is;
           admits = subst (Admits g) (sym leaves) (admits-after g k f (s .admitted) (c .ops));

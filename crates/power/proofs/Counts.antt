@@ -21,6 +21,8 @@ use Rattle.geometry.specs.Refusals.{any, mostLength, uneven, outside, stateRefu
 use Rattle.geometry.proofs.Rows.{admitted, updater-admits}
 use Rattle.geometry.proofs.Tests.{any-none, row-none, length-in, even-times, page-some}
 use Rattle.mem_flash.specs.Flash.{Area, active, dfu, state, Flash, Op, erase, write, applyAll}
+use Rattle.mem_flash.specs.Areas.{Image}
+use Rattle.mem_flash.proofs.Erases.{erase-count}
 use Rattle.rules.specs.declared.Sector.{Sector}
 use Rattle.rules.specs.declared.Sector.the-variants.{At}
 use Rattle.rules.specs.StateArea.{valid, invalidateOp}
@@ -29,12 +31,10 @@ use Rattle.rules.specs.Boot.{renewOps, finishOps, swapOrRevertOps, bootOpsIn, b
 use Rattle.rules.specs.FirmwareState.{setMagicOps, mark}
 use Rattle.rules.specs.FirmwareUpdater.{room, Piece, piecesFrom, pieces, remembers, piecesOps, pastEnd, badRange, updaterCall, updaterMark, updaterMarkUpdated, updaterMarkDfu, updaterMarkBooted, writeFirmware, prepareUpdate}
 use Rattle.rules.specs.Power.{stateUnits, stepCost, dearerCost}
+use Rattle.way.proofs.Costs.{step-count}
+use Rattle.way.proofs.Tables.{swap-count, revert-count, Row, swap-row, revert-row}
+use Rattle.way.proofs.Finish.{renew-count, finish-count}
 use Rattle.power.specs.Cuts.{EveryCount}
-use Rattle.power.proofs.Areas.{Image}
-use Rattle.power.proofs.Erases.{erase-count}
-use Rattle.power.proofs.Steps.{step-count}
-use Rattle.power.proofs.Tables.{swap-count, revert-count, Row, swap-row, revert-row}
-use Rattle.power.proofs.Finish.{renew-count, finish-count}
 
 -- one of two lists
 pick-count : (b : Bool) (os ps : List Op) (n : ℕ) → length os ≤ n → length ps ≤ n → length (pick b os ps) ≤ n

@@ -3,8 +3,8 @@
 use mathlib.Core.Path.{_≡_, refl, sym, _∙_, subst}
 use mathlib.Core.Bool.{Bool, true, false}
 use mathlib.Core.List.{List, [], _∷_, _++_}
-use Prim.Native.Nat.{ℕ, zero, suc, _+_, _-_, _*_, _/_, _%_, _≤_, _<_}
-use native.Mathlib.Nat.{zero-mul, one-mul, suc-mul, mul-le-mul-right, dvd-zero, dvd-trans, dvd-mul-left-of-dvd, dvd-of-mod-eq-zero, mod-eq-zero-of-dvd, div-mul-cancel, mod-self}
+use Prim.Native.Nat.{ℕ, zero, suc, _+_, _*_, _/_, _%_, _≤_, _<_}
+use native.Mathlib.Nat.{zero-mul, one-mul, suc-mul, mul-le-mul-right, dvd-zero, dvd-trans, dvd-mul-left-of-dvd, dvd-of-mod-eq-zero, mod-eq-zero-of-dvd, div-mul-cancel, mod-self, div-mul-le-self, dvd-add}
 use native.Mathlib.Omega.{arith}
 use lib.ListN.{length, take, drop, replicate, length-drop, length-replicate}
 use lib.Seq.{length-take-le}
@@ -19,19 +19,28 @@ use Rattle.geometry.specs.Refusals.{bootWords}
 use Rattle.geometry.specs.Admitted.{Admitted}
 use Rattle.geometry.proofs.Rows.{admitted}
 use Rattle.geometry.proofs.Tests.{even-times}
-use Rattle.mem_flash.specs.Flash.{Area, active, dfu, state, Flash, Op, write, applyAll}
+use Rattle.mem_flash.specs.Flash.{Area, active, dfu, state, Flash, Op, write, applyAll, erase, unitOps, eraseOps}
+use Rattle.mem_flash.specs.Areas.{areaOf, Image, SameLengths}
+use Rattle.mem_flash.proofs.Areas.{all-lengths}
 use Rattle.rules.specs.StateArea.{progress, markOp, invalidateOp, magicOp}
 use Rattle.rules.specs.Steps.{Copy, toDfu, toActive, swapFrom, revertFrom, swapSteps, revertSteps, sourceOf, unitOf, chunkOps, fillOps, copyOps, onceOps, copiesOps, pageCount, swapOps, revertOps}
 use Rattle.rules.specs.Boot.{renewOps, finishOps, swapOrRevertOps, confirming, bootOpsIn, bootOps, prepareBoot}
-use Rattle.power.specs.Inside.{areaOf, writeUnit, Aligned, Within, AllWithin, none, one, BootsInside}
-use Rattle.power.proofs.Areas.{Image, SameLengths, all-lengths}
-use Rattle.power.proofs.Erases.{even-sum, aligned, erase-within}
-use Rattle.power.proofs.Pages.{pages-le}
+use Rattle.rules.proofs.Pages.{pages-le}
+use Rattle.power.specs.Inside.{writeUnit, Aligned, Within, AllWithin, none, one, BootsInside}
 
 -- ---- multiples of a unit
 
+even-sum : (u a b : ℕ) → a % u ≡ 0 → b % u ≡ 0 → (a + b) % u ≡ 0
+even-sum u a b x y = mod-eq-zero-of-dvd u (dvd-add u (dvd-of-mod-eq-zero u x) (dvd-of-mod-eq-zero u y))
+
+-- so many bytes, a multiple of the unit, from a multiple on
+aligned : (u from n size : ℕ) → from % u ≡ 0 → n % u ≡ 0 → from + n ≤ size → Aligned u from n size
+aligned u from n size x y h = record { starts = x; ends = even-sum u from n x y; inside = h }
+
 even-many : (u b k : ℕ) → b % u ≡ 0 → k * b % u ≡ 0
 even-many u b k x = mod-eq-zero-of-dvd u (dvd-mul-left-of-dvd u (dvd-of-mod-eq-zero u x) k)
+
+-- ---- lists of operations
 
 within-append : {g : Geometry} {f : Flash} {os ps : List Op} → AllWithin g f os → AllWithin g f ps → AllWithin g f (os ++ ps)
 within-append none y = y
@@ -42,6 +51,25 @@ within-pick : {g : Geometry} {f : Flash} (b : Bool) {os ps : List Op} → AllWit
 unfolding pick
 within-pick true x y = x
 within-pick false x y = y
+
+-- ---- an erase
+
+-- from a unit's edge on, an erase is within the area, unit by unit
+module _ (g : Geometry) (f : Flash) (a : Area) where
+  abbrev unit : ℕ
+  unit = unitOf g a
+
+  units-within : (n from : ℕ) → from % unit ≡ 0 → from + n * unit ≤ length (areaOf a f) → AllWithin g f (unitOps n unit a from)
+  unfolding unitOps
+  units-within zero from x h = none
+  units-within (suc n) from x h =
+      let h′ : from + (n * unit + unit) ≤ length (areaOf a f) = rw suc-mul at h in
+      one {o = erase a from unit} (refl, aligned unit from unit (length (areaOf a f)) x (mod-self unit) (omega arith))
+      (units-within n (from + unit) (even-sum unit from unit x (mod-self unit)) (omega arith))
+
+  erase-within : (from n : ℕ) → from % unit ≡ 0 → from + n ≤ length (areaOf a f) → AllWithin g f (eraseOps unit a from n)
+  unfolding eraseOps
+  erase-within from n x h = units-within (n / unit) from x (omega (arith, div-mul-le-self n unit))
 
 -- ---- a step
 

@@ -2,11 +2,11 @@
 use mathlib.Core.Path.{_≡_, refl, sym, ap, _∙_}
 use mathlib.Core.Bool.{Bool, true, false}
 use mathlib.Core.List.{List, [], _∷_, _++_}
-use Prim.Native.Nat.{ℕ, _+_, _*_, _/_, _≤_, _<_}
+use Prim.Native.Nat.{ℕ, _*_, _/_, _≤_}
 use native.Mathlib.Nat.{mul-le-mul-right, div-mul-le-self}
 use native.Mathlib.Omega.{arith}
 use lib.Dec.{lit<}
-use lib.ListN.{length, take, replicate}
+use lib.ListN.{length, replicate}
 use borrow.Author.Tests.{ltb-false}
 use Rattle.state.specs.declared.State.{State}
 use Rattle.state.specs.declared.State.the-variants.{Swap}
@@ -17,17 +17,17 @@ use Rattle.geometry.specs.Geometry.{words}
 use Rattle.geometry.specs.Refusals.{lowest, badState, otherWords, stateRefusal}
 use Rattle.geometry.proofs.Tests.{any-none, row-none, even, even-times}
 use Rattle.mem_flash.specs.Flash.{Flash, Op, writtenAt, applyAll, after}
+use Rattle.mem_flash.proofs.Stretches.{length-written}
+use Rattle.mem_flash.proofs.After.{after-all, after-none, after-lengths}
 use Rattle.rules.specs.StateArea.{word, valid, invalidateOp}
 use Rattle.rules.specs.Calls.{Call, left}
 use Rattle.rules.specs.Boot.{renewOps}
 use Rattle.rules.specs.FirmwareState.{setMagicOps, mark}
 use Rattle.rules.specs.Power.{magicArea, Fresh}
+use Rattle.rules.proofs.Endings.{Ending, refused, done, cut, ending, left-refused, left-admitted, state-rows, is-done}
+use Rattle.way.proofs.Finish.{closed, invalidated, renewed}
 use Rattle.power.specs.Power.{restated}
 use Rattle.power.specs.Marking.{Marking, UpdateIsFresh}
-use Rattle.power.proofs.Bytes.{length-written}
-use Rattle.power.proofs.Areas.{after-all, after-none, all-lengths}
-use Rattle.power.proofs.Finish.{closed, invalidated, renewed}
-use Rattle.power.proofs.Cuts.{Ending, refused, done, cut, ending, left-refused, left-admitted, state-rows, is-done}
 
 -- an admitted state area has a word, and whole erase units, whatever it holds
 state-word : (es ws ls : ℕ) → stateRefusal es ws ls ≡ 0 → (ws ≤ ls) × (ls / es * es ≡ ls)
@@ -48,12 +48,11 @@ idle c k f e (done z l) = left-admitted c k f z ∙ ap (λ (os : List Op). after
 idle c k f e (cut z l) = left-admitted c k f z ∙ ap (λ (os : List Op). after k os f) e ∙ after-none k f
 
 left-length : (c : Call) (k : ℕ) (f : Flash) → Ending c k → length (left c k f .state) ≡ length (f .state)
-unfolding after
 left-length c k f (refused r) = ap (λ (x : Flash). length (x .state)) (left-refused c k f r)
 left-length c k f (done z l) =
-    ap (λ (x : Flash). length (x .state)) (left-admitted c k f z) ∙ all-lengths (take k (c .ops)) f .state
+    ap (λ (x : Flash). length (x .state)) (left-admitted c k f z) ∙ after-lengths k (c .ops) f .state
 left-length c k f (cut z l) =
-    ap (λ (x : Flash). length (x .state)) (left-admitted c k f z) ∙ all-lengths (take k (c .ops)) f .state
+    ap (λ (x : Flash). length (x .state)) (left-admitted c k f z) ∙ after-lengths k (c .ops) f .state
 
 module _ (s : State) (es ws : ℕ) (f : Flash) where
   abbrev st : List ℕ

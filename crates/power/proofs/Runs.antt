@@ -1,24 +1,28 @@
--- Any number of cut runs: an invariant that one cut run keeps, with so much left to do, is kept by all of them, and what is left
--- falls by one a run if each budget pays the price. Also what a run of prepare_boot is over its list of operations. Cited by
--- Swapped, Reverted, Proved, Settled and Confirmed. Assumes nothing.
-use mathlib.Core.Path.{_≡_, sym, subst}
+-- What a run of prepare_boot is over its list of operations, cut and not cut; and any number of cut runs: an invariant that one cut
+-- run keeps, with so much left to do, is kept by all of them, and what is left falls by one a run if each budget pays the price.
+-- Serves `power`, `settles` and `confirming`. Assumes nothing.
+use mathlib.Core.Path.{_≡_, sym, subst, ap, ap₂, _∙_}
 use mathlib.Core.Option.{some}
 use mathlib.Core.List.{List, [], _∷_}
 use Prim.Native.Nat.{ℕ, _+_, _≤_, _<_}
 use native.Mathlib.Nat.{lt-of-not-le}
 use native.Mathlib.Decide.{decLe}
 use native.Mathlib.Omega.{arith}
-use lib.ListN.{length, take}
+use lib.ListN.{length}
+use Rattle.state.specs.declared.State.{State}
+use Rattle.state.specs.declared.State.the-variants.{Boot}
 use Rattle.geometry.specs.declared.Geometry.{Geometry}
 use Rattle.geometry.specs.Refusals.{bootRefusal}
 use Rattle.mem_flash.specs.Flash.{Flash, Op, after}
+use Rattle.mem_flash.proofs.After.{after-none, after-lengths}
 use Rattle.rules.specs.StateArea.{readState}
 use Rattle.rules.specs.Boot.{bootOps, prepareBoot}
 use Rattle.rules.specs.Power.{dearerCost, nextCost}
-use Rattle.power.specs.Power.{answer, ran, Cut, runs, AllCut, AllAtLeast, AllBelow}
-use Rattle.power.proofs.Areas.{all-lengths}
-use Rattle.power.proofs.Steps.{next-dearer}
-use Rattle.power.proofs.Cuts.{report-done, left-admitted, boot-rows, lawful}
+use Rattle.rules.specs.Calls.{Report}
+use Rattle.rules.proofs.Endings.{report-done, left-admitted, boot-rows, numberOf, ending, is-cut, report-cut}
+use Rattle.way.proofs.Costs.{next-dearer}
+use Rattle.way.proofs.Way.{Kept}
+use Rattle.power.specs.Power.{answer, ran, Cut, runs, AllCut, AllAtLeast, AllBelow, Ends, Rests}
 
 -- ---- one run
 
@@ -29,8 +33,7 @@ Admits g f = bootRefusal g (length (f .active)) (length (f .dfu)) (length (f .st
 module _ (g : Geometry) (k : ℕ) (f : Flash) (a : Admits g f) where
   -- nor is the next
   pub admits-after : (os : List Op) → Admits g (after k os f)
-  unfolding after
-  admits-after os = let l = all-lengths (take k os) f in rw (l .active, l .dfu, l .state) a
+  admits-after os = let l = after-lengths k os f in rw (l .active, l .dfu, l .state) a
 
   pub ran-after : ran g k f ≡ after k (bootOps g f) f
   unfolding ran prepareBoot
@@ -41,11 +44,11 @@ module _ (g : Geometry) (k : ℕ) (f : Flash) (a : Admits g f) where
 
   pub cut-short : Cut g k f → k < length (bootOps g f)
   unfolding Cut answer prepareBoot
-  cut-short e = lawful (prepareBoot g f) (boot-rows g _ _ _) .cut k e .1
+  cut-short e = is-cut (prepareBoot g f) (boot-rows g _ _ _) k (ending (prepareBoot g f) k) e .1
 
   pub short-cut : k < length (bootOps g f) → Cut g k f
   unfolding Cut answer prepareBoot
-  short-cut h = lawful (prepareBoot g f) (boot-rows g _ _ _) .cut-if k a h
+  short-cut h = ap numberOf (report-cut (prepareBoot g f) k a h)
 
   pub whole-long : (Cut g k f → ⊥) → length (bootOps g f) ≤ k
   whole-long n = go (decLe (length (bootOps g f)) k)
@@ -59,13 +62,34 @@ module _ (g : Geometry) (k : ℕ) (f : Flash) (a : Admits g f) where
   unfolding answer prepareBoot
   answer-done h = report-done (prepareBoot g f) k a h
 
--- ---- any number of cut runs
+-- a run that is not cut, in the words of the statement
+module _ (g : Geometry) (ks : List ℕ) (k : ℕ) (f : Flash) (a : Admits g (runs g ks f))
+    (long : length (bootOps g (runs g ks f)) ≤ k) where
+  pub ends-at : (s : State) (h : Flash) → readState (g .ws) (runs g ks f .state) ≡ s
+      → after k (bootOps g (runs g ks f)) (runs g ks f) ≡ h
+      → Ends g ks k f s h
+  ends-at s h e d =
+      let r = answer-done g k (runs g ks f) a long in
+      record {
+        number = ap (λ (t : Report). t .number) r;
+        state = ap (λ (t : Report). t .state) r ∙ ap (λ (x : State). some x) e;
+        flash = ran-after g k (runs g ks f) a ∙ d;
+      }
 
--- a run that is cut keeps the invariant, with less left to do if it had the price
-pub record Kept (Inv : Flash → ℕ → Type 0) (next : Flash) (k price was : ℕ) : Type 0 where
-  pub rest : ℕ
-  pub inv : Inv next rest
-  pub gain : price ≤ k → rest < was
+  pub rests-at : (h : Flash) → runs g ks f ≡ h → bootOps g h ≡ [] → readState (g .ws) (h .state) ≡ Boot → Rests g ks k f h
+  rests-at h e none boot =
+      let n : bootOps g (runs g ks f) ≡ [] = ap (bootOps g) e ∙ none in
+      record {
+        reached = e;
+        answers =
+            answer-done g k (runs g ks f) a long
+            ∙ ap₂ (λ (s : State) (c : ℕ). record { number = 0; state = some s; count = c })
+            (ap (λ (x : Flash). readState (g .ws) (x .state)) e ∙ boot) (ap length n);
+        flash =
+            ran-after g k (runs g ks f) a ∙ ap (λ (os : List Op). after k os (runs g ks f)) n ∙ after-none k (runs g ks f) ∙ e;
+      }
+
+-- ---- any number of cut runs
 
 -- the dearer step's cost pays for the next step
 pub dearer : (g : Geometry) (Inv : Flash → ℕ → Type 0) (now next : Flash) (k was : ℕ) → Kept Inv next k (nextCost g now) was
@@ -74,7 +98,7 @@ dearer g Inv now next k was o =
     record { rest = o .rest; inv = o .inv; gain = λ x. o .gain (omega (arith, next-dearer g now)) }
 
 -- and so do any number of them
-pub record Left (g : Geometry) (Inv : Flash → ℕ → Type 0) (next : Flash) (ks : List ℕ) (price was : ℕ) : Type 0 where
+pub record KeptAll (g : Geometry) (Inv : Flash → ℕ → Type 0) (next : Flash) (ks : List ℕ) (price was : ℕ) : Type 0 where
   pub admits : Admits g next
   pub rest : ℕ
   pub inv : Inv next rest
@@ -84,7 +108,7 @@ module _ (g : Geometry) (Inv : Flash → ℕ → Type 0) (price : ℕ)
     (step : (now : Flash) (was : ℕ) → Inv now was → (k : ℕ) → k < length (bootOps g now)
     → Kept Inv (after k (bootOps g now) now) k price was) where
   pub runs-left : (ks : List ℕ) (now : Flash) (was : ℕ) → Admits g now → Inv now was → AllCut g ks now
-      → Left g Inv (runs g ks now) ks price was
+      → KeptAll g Inv (runs g ks now) ks price was
   unfolding runs AllCut AllAtLeast
   runs-left [] now was a on cuts = record { admits = a; rest = was; inv = on; gain = λ x. omega arith }
   runs-left (k ∷ ks) now was a on cuts =

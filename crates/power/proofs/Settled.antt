@@ -6,7 +6,7 @@ use mathlib.Core.Bool.{Bool, true, false}
 use mathlib.Core.Option.{some}
 use mathlib.Core.Logic.{_⊎_, inl, inr}
 use mathlib.Core.List.{List, [], _∷_, _++_}
-use Prim.Native.Nat.{ℕ, suc, _+_, _-_, _*_, _/_, _≤_, _<_, zero-le}
+use Prim.Native.Nat.{ℕ, suc, _+_, _*_, _/_, _≤_, _<_, zero-le}
 use native.Mathlib.Nat.{eq-or-lt-of-le, lt-of-not-le, mul-le-mul-right, div-mul-le-self}
 use native.Mathlib.Decide.{decLe}
 use native.Mathlib.Omega.{arith}
@@ -21,23 +21,25 @@ use Rattle.geometry.specs.Admitted.{Admitted}
 use Rattle.geometry.proofs.Rows.{admitted}
 use Rattle.geometry.proofs.Tests.{even-times}
 use Rattle.mem_flash.specs.Flash.{Flash, Op, erasedAt, writtenAt, change, apply, applyAll, after}
+use Rattle.mem_flash.specs.Areas.{areaOf, Image}
+use Rattle.mem_flash.proofs.Chunks.{chunked}
+use Rattle.mem_flash.proofs.After.{apply-append, after-all, after-none}
+use Rattle.mem_flash.proofs.Areas.{placed-same, state-placed, all-lengths}
 use Rattle.rules.specs.StateArea.{readState, mostMarks, progress, markOp}
 use Rattle.rules.specs.Steps.{Copy, swapFrom, revertFrom, sourceOf, unitOf, fillOps, copyOps, onceOps, copiesOps, pageCount}
 use Rattle.rules.specs.Calls.{Report}
 use Rattle.rules.specs.Boot.{confirming, bootOpsIn, bootOps, prepareBoot}
+use Rattle.rules.proofs.Spread.{revert-reads, boot-reads, area-reads}
+use Rattle.rules.proofs.MarkWritten.{withMark, same-state, mark-passes}
+use Rattle.way.proofs.Fill.{fill-placed}
+use Rattle.way.proofs.Steps.{Whole, whole-page}
+use Rattle.way.proofs.Finish.{closed, closeOps, finish-close, renewed, finished}
+use Rattle.way.proofs.Way.{Reads, once-skip, once-do}
+use Rattle.way.proofs.Tables.{swap-count, Row, swap-row}
+use Rattle.way.proofs.Wanted.{boot-idle, revert-idle, boot-confirms, boot-swaps, boot-reverts}
 use Rattle.power.specs.Power.{answer, ran, Cut, runs}
-use Rattle.power.specs.Inside.{areaOf}
 use Rattle.power.specs.Settles.{Quiet, Settles}
-use Rattle.power.proofs.Bytes.{chunked}
-use Rattle.power.proofs.Words.{revert-reads, boot-reads, area-reads}
-use Rattle.power.proofs.Marks.{withMark, same-state, mark-passes}
-use Rattle.power.proofs.Areas.{apply-append, after-all, after-none, placed-same, Image, state-placed, all-lengths}
-use Rattle.power.proofs.Steps.{fill-placed, Whole, whole-page}
-use Rattle.power.proofs.Finish.{closed, closeOps, finish-close, renewed, finished}
-use Rattle.power.proofs.Way.{Reads, once-skip, once-do}
-use Rattle.power.proofs.Tables.{swap-count, Row, swap-row}
 use Rattle.power.proofs.Runs.{Admits, ran-after, admits-ran, whole-long, answer-done}
-use Rattle.power.proofs.Swapped.{boot-idle, revert-idle, boot-confirms, boot-swaps, boot-reverts}
 
 -- ---- the state area after the swap's steps
 

@@ -6,15 +6,11 @@ use Prim.Native.Nat.{ℕ, _+_, _%_, _≤_}
 use lib.ListN.{length}
 use Rattle.geometry.specs.declared.Geometry.{Geometry}
 use Rattle.mem_flash.specs.Flash.{Area, active, dfu, state, Flash, Op, erase, write}
+use Rattle.mem_flash.specs.Areas.{areaOf}
 use Rattle.rules.specs.Steps.{unitOf}
 use Rattle.rules.specs.Boot.{prepareBoot}
 
--- an area of a flash, and the write unit of an area
-unfoldable pub areaOf : Area → Flash → List ℕ
-areaOf active f = f .active
-areaOf dfu f = f .dfu
-areaOf state f = f .state
-
+-- the write unit of an area
 unfoldable pub writeUnit : Geometry → Area → ℕ
 writeUnit g active = g .wa
 writeUnit g dfu = g .wd

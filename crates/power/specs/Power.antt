@@ -11,6 +11,7 @@ use Rattle.geometry.specs.declared.Geometry.{Geometry}
 use Rattle.geometry.specs.Geometry.{words}
 use Rattle.geometry.specs.Refusals.{bootRefusal}
 use Rattle.mem_flash.specs.Flash.{dfu, Flash, blank}
+use Rattle.mem_flash.specs.Areas.{Bytes}
 use Rattle.rules.specs.StateArea.{readState, progress}
 use Rattle.rules.specs.Steps.{pageCount}
 use Rattle.rules.specs.Calls.{Report, report, left}
@@ -18,11 +19,6 @@ use Rattle.rules.specs.Boot.{prepareBoot}
 use Rattle.rules.specs.Power.{magicArea, Fresh, swapTable, reverted, revertMarks, revertedPart, revertedErased, stateUnits, stepCost, dearerCost, nextCost}
 
 -- ---- where the runs start
-
--- every number of the list is a byte
-abbrev pub Bytes : List ℕ → Type 0
-Bytes [] = Unit {0}
-Bytes (x ∷ xs) = (x < 256) × Bytes xs
 
 -- the geometry is admitted, the areas hold bytes, and the state area is freshly marked for an update
 pub record Marked (g : Geometry) (f : Flash) : Type 0 where

@@ -1,5 +1,5 @@
--- A list of steps, cut anywhere: one lemma, `run-on`, serves the swap and the revert. It says where a run that is cut leaves the
--- flash, where one that is not cut does, and how many steps were gained. Cited by Swapped, Reverted and Settled. Assumes nothing.
+-- A list of steps, cut anywhere: one law, `run-on`, for the swap and the revert. It says where a run that is cut leaves the
+-- flash, where one that is not cut does, and how many steps were gained. Serves `power`. Assumes nothing.
 use mathlib.Core.Path.{_≡_, refl, sym, ap, _∙_, subst}
 use mathlib.Core.Bool.{false}
 use mathlib.Core.List.{List, [], _∷_, _++_}
@@ -7,19 +7,22 @@ use Prim.Native.Nat.{ℕ, suc, _+_, _-_, _/_, _≤_, _<_, zero-le}
 use native.Mathlib.Nat.{lt-of-not-le}
 use native.Mathlib.Decide.{decLe}
 use native.Mathlib.Omega.{arith}
-use lib.ListN.{length, take, length-append}
+use lib.ListN.{length, length-append}
 use borrow.Author.Tests.{le-leb, lt-leb}
 use Rattle.state.specs.declared.State.the-variants.{Swap}
 use Rattle.state.specs.Choice.{pick}
 use Rattle.geometry.specs.declared.Geometry.{Geometry}
 use Rattle.geometry.specs.Geometry.{page, pages}
-use Rattle.mem_flash.specs.Flash.{Flash, Op, applyAll}
+use Rattle.mem_flash.specs.Flash.{Flash, Op, applyAll, after}
+use Rattle.mem_flash.specs.Areas.{Image}
+use Rattle.mem_flash.proofs.After.{apply-append, after-within, after-past}
+use Rattle.mem_flash.proofs.Areas.{state-placed, active-placed}
 use Rattle.rules.specs.StateArea.{readState, progress}
 use Rattle.rules.specs.Steps.{Copy, copyOps, onceOps, copiesOps, pageCount}
 use Rattle.rules.specs.Boot.{confirming}
 use Rattle.rules.specs.Power.{stepTo, nextCost}
-use Rattle.power.proofs.Areas.{apply-append, cut-first, cut-past, Image, state-placed, active-placed}
-use Rattle.power.proofs.Steps.{Whole, Fits, Near, near-refl, stepped, next-count, step-whole, step-cut}
+use Rattle.way.proofs.Steps.{Whole, Fits, Near, near-refl, stepped, step-whole, step-cut}
+use Rattle.way.proofs.Costs.{next-count}
 
 -- ---- the way
 
@@ -75,27 +78,27 @@ close-reads g N S m f [] h now w e = subst (Reads g N S m) (sym e) (w .0)
 close-reads g N S m f (c ∷ cs) h now w near = near-reads g N S m c f now (w .1 .fits .image) near (w .1 .reads)
 
 -- now lies on the way of the list's steps to h, with so many steps left
-pub data On (g : Geometry) (N S : ℕ) (h now : Flash) : ℕ → List Copy → ℕ → Type 0 where
-  here : {m : ℕ} {cs : List Copy} (f : Flash) → Way g N S m f cs h → Close g cs f now → On g N S h now m cs (length cs)
-  there : {m rest : ℕ} {c : Copy} {cs : List Copy} → c .mark ≡ m → On g N S h now (suc m) cs rest → On g N S h now m (c ∷ cs) rest
+pub data OnWay (g : Geometry) (N S : ℕ) (h now : Flash) : ℕ → List Copy → ℕ → Type 0 where
+  here : {m : ℕ} {cs : List Copy} (f : Flash) → Way g N S m f cs h → Close g cs f now → OnWay g N S h now m cs (length cs)
+  there : {m rest : ℕ} {c : Copy} {cs : List Copy} → c .mark ≡ m → OnWay g N S h now (suc m) cs rest → OnWay g N S h now m (c ∷ cs) rest
 
 -- what a boot reads there: as many steps done as are not left
-pub record Found (g : Geometry) (N S : ℕ) (now : Flash) (m all rest : ℕ) : Type 0 where
+pub record Stage (g : Geometry) (N S : ℕ) (now : Flash) (m all rest : ℕ) : Type 0 where
   pub at : ℕ
   pub reads : Reads g N S at now
   pub sum : at + rest ≡ m + all
   pub past : m ≤ at
 
-pub on-found : (g : Geometry) (N S : ℕ) (h now : Flash) {m rest : ℕ} {cs : List Copy} → On g N S h now m cs rest
-    → Found g N S now m (length cs) rest
-on-found g N S h now (here {m = m} {cs = cs} f w close) =
+pub on-stage : (g : Geometry) (N S : ℕ) (h now : Flash) {m rest : ℕ} {cs : List Copy} → OnWay g N S h now m cs rest
+    → Stage g N S now m (length cs) rest
+on-stage g N S h now (here {m = m} {cs = cs} f w close) =
     record { at = m; reads = close-reads g N S m f cs h now w close; sum = refl; past = omega arith }
-on-found g N S h now (there e on) =
-    let r = on-found g N S h now on in
+on-stage g N S h now (there e on) =
+    let r = on-stage g N S h now on in
     record { at = r .at; reads = r .reads; sum = omega (arith, r .sum); past = omega (arith, r .past) }
 
 -- the end of the way lies on it
-pub on-end : (g : Geometry) (N S : ℕ) (h : Flash) (cs : List Copy) (m : ℕ) (f : Flash) → Way g N S m f cs h → On g N S h h m cs 0
+pub on-end : (g : Geometry) (N S : ℕ) (h : Flash) (cs : List Copy) (m : ℕ) (f : Flash) → Way g N S m f cs h → OnWay g N S h h m cs 0
 on-end g N S h [] m f w = here f w (sym (w .1))
 on-end g N S h (c ∷ cs) m f w = there (w .1 .number) (on-end g N S h cs (suc m) (w .0) (w .2))
 
@@ -103,11 +106,11 @@ on-end g N S h (c ∷ cs) m f w = there (w .1 .number) (on-end g N S h cs (suc m
 
 -- what a run of the operations os with a budget of k leaves, where r steps were left: it goes through to h; or it is stopped
 -- on the way, with fewer steps left if k pays for the next one, and as many if not
-pub data Outcome (g : Geometry) (N S : ℕ) (h : Flash) (m : ℕ) (cs : List Copy) (r : ℕ) (now : Flash) (k : ℕ)
+pub data Went (g : Geometry) (N S : ℕ) (h : Flash) (m : ℕ) (cs : List Copy) (r : ℕ) (now : Flash) (k : ℕ)
     (os : List Op) : Type 0 where
-  through : length os ≤ k → applyAll os now ≡ h → (k < nextCost g now → r ≡ 0) → Outcome g N S h m cs r now k os
+  through : length os ≤ k → applyAll os now ≡ h → (k < nextCost g now → r ≡ 0) → Went g N S h m cs r now k os
   stopped : (rest : ℕ) → k < length os → 0 < rest → rest ≤ r → (nextCost g now ≤ k → rest < r) → (k < nextCost g now → rest ≡ r)
-      → On g N S h (applyAll (take k os) now) m cs rest → Outcome g N S h m cs r now k os
+      → OnWay g N S h (after k os now) m cs rest → Went g N S h m cs r now k os
 
 -- a step that is done already is passed over, and any other is done
 pub once-skip : (g : Geometry) (c : Copy) (f : Flash) → c .mark < progress (g .ws) (f .state) → onceOps g c f ≡ []
@@ -128,29 +131,29 @@ copies-do : (g : Geometry) (c : Copy) (cs : List Copy) (f : Flash) → progress 
 unfolding copiesOps
 copies-do g c cs f h = ap (λ (os : List Op). os ++ copiesOps g cs (applyAll os f)) (once-do g c f h)
 
-outcome-there : {g : Geometry} {N S m r k : ℕ} {h now : Flash} {c : Copy} {cs : List Copy} {os : List Op}
-    → c .mark ≡ m → Outcome g N S h (suc m) cs r now k os → Outcome g N S h m (c ∷ cs) r now k os
-outcome-there e (through l d still) = through l d still
-outcome-there e (stopped rest l p b gain still on) = stopped rest l p b gain still (there e on)
+went-there : {g : Geometry} {N S m r k : ℕ} {h now : Flash} {c : Copy} {cs : List Copy} {os : List Op}
+    → c .mark ≡ m → Went g N S h (suc m) cs r now k os → Went g N S h m (c ∷ cs) r now k os
+went-there e (through l d still) = through l d still
+went-there e (stopped rest l p b gain still on) = stopped rest l p b gain still (there e on)
 
 -- a step done, then a run of the rest
-outcome-past : (g : Geometry) (N S : ℕ) (h : Flash) (m : ℕ) (c : Copy) (cs : List Copy) (r : ℕ) (now next : Flash) (j : ℕ)
+went-past : (g : Geometry) (N S : ℕ) (h : Flash) (m : ℕ) (c : Copy) (cs : List Copy) (r : ℕ) (now next : Flash) (j : ℕ)
     (os ps : List Op)
-    → c .mark ≡ m → length os ≡ nextCost g now → applyAll os now ≡ next → Outcome g N S h (suc m) cs r next j ps
-    → Outcome g N S h m (c ∷ cs) (suc r) now (length os + j) (os ++ ps)
-outcome-past g N S h m c cs r now next j os ps e n d (through l t still) =
+    → c .mark ≡ m → length os ≡ nextCost g now → applyAll os now ≡ next → Went g N S h (suc m) cs r next j ps
+    → Went g N S h m (c ∷ cs) (suc r) now (length os + j) (os ++ ps)
+went-past g N S h m c cs r now next j os ps e n d (through l t still) =
     through (omega (arith, length-append os ps)) (apply-append os ps now ∙ ap (applyAll ps) d ∙ t) (λ x. absurd (omega arith))
-outcome-past g N S h m c cs r now next j os ps e n d (stopped rest l p b gain still on) =
+went-past g N S h m c cs r now next j os ps e n d (stopped rest l p b gain still on) =
     stopped rest (omega (arith, length-append os ps)) p (omega arith) (λ x. omega arith) (λ x. absurd (omega arith))
-    (there e (subst (λ (x : Flash). On g N S h x (suc m) cs rest) (sym (cut-past j os ps now ∙ ap (applyAll (take j ps)) d)) on))
+    (there e (subst (λ (x : Flash). OnWay g N S h x (suc m) cs rest) (sym (after-past j os ps now ∙ ap (after j ps) d)) on))
 
 module _ (g : Geometry) (whole : Whole g) (N S : ℕ) (h : Flash) where
   run-here : (cs : List Copy) (m : ℕ) (f now : Flash) → Way g N S m f cs h → Close g cs f now → (k : ℕ)
-      → Outcome g N S h m cs (length cs) now k (copiesOps g cs now)
+      → Went g N S h m cs (length cs) now k (copiesOps g cs now)
   unfolding copiesOps applyAll
   run-here [] m f now w close k = through zero-le (close ∙ w .1) (λ x. refl)
   run-here (c ∷ cs) m f now w near k =
-      subst (λ (os : List Op). Outcome g N S h m (c ∷ cs) (suc (length cs)) now k os) (sym whole-run)
+      subst (λ (os : List Op). Went g N S h m (c ∷ cs) (suc (length cs)) now k os) (sym whole-run)
       (go (decLe (length first) k) (λ j. run-here cs (suc m) next next way (close-refl g cs next) j))
     where
       next : Flash
@@ -179,26 +182,34 @@ module _ (g : Geometry) (whole : Whole g) (N S : ℕ) (h : Flash) where
           copies-do g c cs now (omega (arith, done, leg .number))
           ∙ ap (λ (x : Flash). first ++ copiesOps g cs x) leads
 
-      go : Dec (length first ≤ k) → ((j : ℕ) → Outcome g N S h (suc m) cs (length cs) next j (copiesOps g cs next))
-          → Outcome g N S h m (c ∷ cs) (suc (length cs)) now k (first ++ copiesOps g cs next)
+      go : Dec (length first ≤ k) → ((j : ℕ) → Went g N S h (suc m) cs (length cs) next j (copiesOps g cs next))
+          → Went g N S h m (c ∷ cs) (suc (length cs)) now k (first ++ copiesOps g cs next)
       go (yes l) rest =
           let j : ℕ = k - length first in
           let e : length first + j ≡ k = omega arith in
-          subst (λ (z : ℕ). Outcome g N S h m (c ∷ cs) (suc (length cs)) now z (first ++ copiesOps g cs next)) e
-          (outcome-past g N S h m c cs (length cs) now next j first (copiesOps g cs next) (leg .number) cost leads
+          subst (λ (z : ℕ). Went g N S h m (c ∷ cs) (suc (length cs)) now z (first ++ copiesOps g cs next)) e
+          (went-past g N S h m c cs (length cs) now next j first (copiesOps g cs next) (leg .number) cost leads
           (rest j))
       go (no l) rest =
           let short : k < length first = lt-of-not-le l in
           stopped (suc (length cs)) (omega (arith, length-append first (copiesOps g cs next))) (omega arith) (omega arith)
           (λ x. absurd (omega (arith, cost))) (λ x. refl)
           (here f w
-          (subst (λ (x : Flash). Near g c f x) (sym (cut-first k first (copiesOps g cs next) now (omega arith)))
+          (subst (λ (x : Flash). Near g c f x) (sym (after-within k first (copiesOps g cs next) now short))
           (step-cut g whole c f (leg .fits) now near k short)))
 
-  pub run-on : (now : Flash) {m rest : ℕ} {cs : List Copy} → On g N S h now m cs rest → (k : ℕ)
-      → Outcome g N S h m cs rest now k (copiesOps g cs now)
+  pub run-on : (now : Flash) {m rest : ℕ} {cs : List Copy} → OnWay g N S h now m cs rest → (k : ℕ)
+      → Went g N S h m cs rest now k (copiesOps g cs now)
   run-on now (here {m = m} {cs = cs} f w close) k = run-here cs m f now w close k
   run-on now (there {m = m} {rest = rest} {c = c} {cs = cs} e on) k =
-      subst (λ (os : List Op). Outcome g N S h m (c ∷ cs) rest now k os)
-      (sym (copies-skip g c cs now (let r = on-found g N S h now on in omega (arith, r .past, r .reads .done))))
-      (outcome-there e (run-on now on k))
+      subst (λ (os : List Op). Went g N S h m (c ∷ cs) rest now k os)
+      (sym (copies-skip g c cs now (let r = on-stage g N S h now on in omega (arith, r .past, r .reads .done))))
+      (went-there e (run-on now on k))
+
+-- ---- what one cut run keeps
+
+-- a run that is cut keeps the invariant, with less left to do if it had the price
+pub record Kept (Inv : Flash → ℕ → Type 0) (next : Flash) (k price was : ℕ) : Type 0 where
+  pub rest : ℕ
+  pub inv : Inv next rest
+  pub gain : price ≤ k → rest < was

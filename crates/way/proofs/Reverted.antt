@@ -1,6 +1,6 @@
--- The revert, cut anywhere, and the operations that end it: invalidate, erase the state area unit by unit, write the magic. The
--- one-run lemmas that Runs asks for, from a flash where steps are left, or the marks are void, or units of the state area are
--- erased. Cited by Proved. Assumes nothing.
+-- The revert, cut anywhere, and the operations that end it: invalidate, erase the state area unit by unit, write the magic. What
+-- one run leaves, from a flash where steps are left, or the marks are void, or units of the state area are erased. Serves `power`.
+-- Assumes nothing.
 use mathlib.Core.Path.{_≡_, refl, sym, ap, ap₂, _∙_, subst}
 use mathlib.Core.Logic.{_⊎_, inl, inr}
 use mathlib.Core.List.{List, [], _∷_, _++_}
@@ -8,34 +8,34 @@ use Prim.Native.Nat.{ℕ, zero, suc, _+_, _-_, _*_, _/_, _≤_, _<_, zero-le}
 use native.Mathlib.Nat.{zero-mul, mul-le-mul-right, mul-div-cancel, not-le-of-lt, lt-of-not-le}
 use native.Mathlib.Decide.{decLe}
 use native.Mathlib.Omega.{arith}
-use lib.ListN.{length, take, length-append}
+use lib.ListN.{length, length-append}
 use Rattle.state.specs.declared.State.the-variants.{Boot, Swap, Revert}
 use Rattle.state.specs.Magic.{erased, marked}
 use Rattle.geometry.specs.declared.Geometry.{Geometry}
 use Rattle.geometry.specs.Geometry.{page, pages}
 use Rattle.mem_flash.specs.Flash.{Flash, Op, blank, applyAll, after}
-use Rattle.rules.specs.StateArea.{word, readState, progress}
+use Rattle.mem_flash.proofs.After.{apply-append, after-within, after-past, after-all, after-first}
+use Rattle.rules.specs.StateArea.{readState, progress}
 use Rattle.rules.specs.Steps.{Copy, toDfu, toActive, revertFrom, copiesOps, pageCount}
 use Rattle.rules.specs.Boot.{bootOps}
 use Rattle.rules.specs.Power.{magicArea, nextCost}
-use Rattle.power.proofs.Words.{spread, marks, length-spread, length-marks, reads-swap, done-marks, progress-void, confirming-reverted, blank-boot, void-written}
-use Rattle.power.proofs.Areas.{apply-append, cut-first, cut-past, after-all}
-use Rattle.power.proofs.Finish.{closed, closeOps, close-count, finish-close, finished, close-part}
-use Rattle.power.proofs.Steps.{Whole}
-use Rattle.power.proofs.Way.{Reads, Way, On, Found, on-found, on-end, Outcome, through, stopped, run-on, copies-skip}
-use Rattle.power.proofs.Tables.{revert-count}
-use Rattle.power.proofs.Runs.{Kept}
-use Rattle.power.proofs.Swapped.{boot-idle, boot-reverts}
+use Rattle.rules.proofs.Spread.{spread, length-spread, blank-boot}
+use Rattle.rules.proofs.MarkedArea.{marks, length-marks, reads-swap, done-marks, progress-void, confirming-reverted, void-written}
+use Rattle.way.proofs.Finish.{closed, closeOps, close-count, finish-close, finished, close-part}
+use Rattle.way.proofs.Steps.{Whole}
+use Rattle.way.proofs.Way.{Reads, Way, OnWay, Stage, on-stage, on-end, Went, through, stopped, run-on, copies-skip, Kept}
+use Rattle.way.proofs.Tables.{revert-count}
+use Rattle.way.proofs.Wanted.{boot-idle, boot-reverts}
 
 -- steps whose marks are all read as done
-pub copies-none : (g : Geometry) (f : Flash) (j k i : ℕ) → i + 2 * j ≤ progress (g .ws) (f .state)
+pub copies-past : (g : Geometry) (f : Flash) (j k i : ℕ) → i + 2 * j ≤ progress (g .ws) (f .state)
     → copiesOps g (revertFrom j k i) f ≡ []
 unfolding copiesOps revertFrom toDfu toActive
-copies-none g f zero k i h = refl
-copies-none g f (suc j) k i h =
+copies-past g f zero k i h = refl
+copies-past g f (suc j) k i h =
     copies-skip g (toDfu i k k) (toActive (i + 1) (k + 1) k ∷ revertFrom j (k + 1) (i + 2)) f (omega arith)
     ∙ copies-skip g (toActive (i + 1) (k + 1) k) (revertFrom j (k + 1) (i + 2)) f (omega arith)
-    ∙ copies-none g f j (k + 1) (i + 2) (omega arith)
+    ∙ copies-past g f j (k + 1) (i + 2) (omega arith)
 
 -- ---- the end of the revert, on a state area of 2 + t words
 
@@ -57,13 +57,13 @@ no-swap e = let z : _≡_ {A = ℕ} 0 1 = cc in omega arith
 -- steps are left, and the end after them; or the marks are void, and the end is left; or some of the state's U units are erased, and
 -- nothing is left
 pub data Reverting (g : Geometry) (N S : ℕ) (h void : Flash) (U : ℕ) (gone : ℕ → Flash) (now : Flash) : ℕ → Type 0 where
-  copying : {rest : ℕ} → On g N S h now (2 * N) (revertFrom N 0 (2 * N)) rest → Reverting g N S h void U gone now (suc rest)
+  copying : {rest : ℕ} → OnWay g N S h now (2 * N) (revertFrom N 0 (2 * N)) rest → Reverting g N S h void U gone now (suc rest)
   voided : now ≡ void → Reverting g N S h void U gone now 1
   emptied : (j : ℕ) → 1 ≤ j → j ≤ U → now ≡ gone j → Reverting g N S h void U gone now 0
 
 -- the flash x after a cut: units are erased just if the cut fell there, with r operations left, and else it reads Swap
-abbrev pub Place : Geometry → ℕ → (ℕ → Flash) → (ℕ → Type 0) → Flash → Type 0
-Place g U gone There x =
+abbrev pub LastCut : Geometry → ℕ → (ℕ → Flash) → (ℕ → Type 0) → Flash → Type 0
+LastCut g U gone There x =
     ((r : ℕ) × (1 ≤ r) × (r ≤ U) × There r × (x ≡ gone (U + 1 - r)))
     ⊎ (((r : ℕ) → 1 ≤ r → r ≤ U → There r → ⊥) × (readState (g .ws) (x .state) ≡ Swap))
 
@@ -75,8 +75,8 @@ data Reverts (g : Geometry) (N S : ℕ) (h void : Flash) (U : ℕ) (gone : ℕ �
       → Reverts g N S h void U gone done now m k os
   idle : (j : ℕ) → 1 ≤ j → j ≤ U → now ≡ gone j → os ≡ [] → Reverts g N S h void U gone done now m k os
   cut : (l : ℕ) → k < length os → (nextCost g now ≤ k → l < m)
-      → Reverting g N S h void U gone (applyAll (take k os) now) l
-      → Place g U gone (λ (r : ℕ). k + r ≡ length os) (applyAll (take k os) now)
+      → Reverting g N S h void U gone (after k os now) l
+      → LastCut g U gone (λ (r : ℕ). k + r ≡ length os) (after k os now)
       → Reverts g N S h void U gone done now m k os
 
 -- N pages, whose way back from f₀ ends with the images A and R and 4N marks of t
@@ -137,7 +137,7 @@ module _ {g : Geometry} {N t : ℕ} {A R : List ℕ} {f₀ : Flash} (course : Co
       no-swap (sym (gone-boot j one most) ∙ sym (ap (λ (y : Flash). readState (g .ws) (y .state)) e) ∙ swap)
 
   -- the last operations, from a validity word that holds v: cut after the invalidation and j units, and whole
-  close-gone : (v j : ℕ) → j ≤ U → applyAll (take (suc j) (closeOps g S)) (closing g A R t (4 * N) v) ≡ gone j
+  close-gone : (v j : ℕ) → j ≤ U → after (suc j) (closeOps g S) (closing g A R t (4 * N) v) ≡ gone j
   unfolding closing part
   close-gone v j less =
       close-part A R g S j (spread (g .ws) (marks v (4 * N) (t - 4 * N))) less
@@ -163,11 +163,11 @@ module _ {g : Geometry} {N t : ℕ} {A R : List ℕ} {f₀ : Flash} (course : Co
     late : (i : ℕ) → j ≡ suc i → 1 ≤ i → i ≤ U → x ≡ gone i → Stop j x
 
   close-cut : (v : ℕ) → Turning (closing g A R t (4 * N) v) 1 → (j : ℕ) → j < 2 + U
-      → Stop j (applyAll (take j (closeOps g S)) (closing g A R t (4 * N) v))
-  unfolding applyAll
-  close-cut v on zero less = early (omega arith) on (closing-swap v)
+      → Stop j (after j (closeOps g S) (closing g A R t (4 * N) v))
+  close-cut v on zero less =
+      subst (Stop 0) (sym (after-first (closeOps g S) (closing g A R t (4 * N) v))) (early (omega arith) on (closing-swap v))
   close-cut v on (suc zero) less =
-      let e : applyAll (take 1 (closeOps g S)) (closing g A R t (4 * N) v) ≡ void = close-gone v 0 (omega arith) ∙ gone-none in
+      let e : after 1 (closeOps g S) (closing g A R t (4 * N) v) ≡ void = close-gone v 0 (omega arith) ∙ gone-none in
       early (omega arith) (voided e) (ap (λ (x : Flash). readState (g .ws) (x .state)) e ∙ closing-swap marked)
   close-cut v on (suc (suc i)) less = late (suc i) refl (omega arith) (omega arith) (close-gone v (suc i) (omega arith))
 
@@ -186,13 +186,13 @@ module _ {g : Geometry} {N t : ℕ} {A R : List ℕ} {f₀ : Flash} (course : Co
       e : length os + j ≡ k
       e = omega (arith, l)
 
-      at : applyAll (take k (os ++ closeOps g S)) now ≡ applyAll (take j (closeOps g S)) (closing g A R t (4 * N) v)
+      at : after k (os ++ closeOps g S) now ≡ after j (closeOps g S) (closing g A R t (4 * N) v)
       at =
-          ap (λ (z : ℕ). applyAll (take z (os ++ closeOps g S)) now) (sym e) ∙ cut-past j os (closeOps g S) now
-          ∙ ap (applyAll (take j (closeOps g S))) d
+          ap (λ (z : ℕ). after z (os ++ closeOps g S) now) (sym e) ∙ after-past j os (closeOps g S) now
+          ∙ ap (after j (closeOps g S)) d
 
       -- in a clause of its own, for the flash where it stops
-      stop : (x : Flash) → x ≡ applyAll (take k (os ++ closeOps g S)) now → k < length os + (2 + U) → Stop j x
+      stop : (x : Flash) → x ≡ after k (os ++ closeOps g S) now → k < length os + (2 + U) → Stop j x
           → Turned now m k (os ++ closeOps g S)
       stop x same short (early few on′ reads) =
           cut 1 (omega (arith, size)) (λ c. some c (omega (arith, e))) (subst (λ (y : Flash). Turning y 1) same on′)
@@ -228,7 +228,7 @@ module _ {g : Geometry} {N t : ℕ} {A R : List ℕ} {f₀ : Flash} (course : Co
   void-wants : bootOps g void ≡ closeOps g S
   void-wants =
       boot-reverts g N S (2 + (4 * N + (t - 4 * N)) - 3) void void-reads (omega arith)
-      ∙ ap₂ (λ (l r : List Op). l ++ r) (copies-none g void N 0 (2 * N) (omega (arith, void-reads .done)))
+      ∙ ap₂ (λ (l r : List Op). l ++ r) (copies-past g void N 0 (2 * N) (omega (arith, void-reads .done)))
       (finish-close g void S (void-reads .sized))
 
   void-run : (k : ℕ) → Turned void 1 k (bootOps g void)
@@ -240,15 +240,15 @@ module _ {g : Geometry} {N t : ℕ} {A R : List ℕ} {f₀ : Flash} (course : Co
 
   -- ---- steps are left
 
-  module _ (now : Flash) (rest : ℕ) (on : On g N S h now (2 * N) (revertFrom N 0 (2 * N)) rest) where
+  module _ (now : Flash) (rest : ℕ) (on : OnWay g N S h now (2 * N) (revertFrom N 0 (2 * N)) rest) where
     abbrev cs : List Copy
     cs = revertFrom N 0 (2 * N)
 
     abbrev steps : List Op
     steps = copiesOps g cs now
 
-    found : Found g N S now (2 * N) (length cs) rest
-    found = on-found g N S h now on
+    found : Stage g N S now (2 * N) (length cs) rest
+    found = on-stage g N S h now on
 
     copy-wants : bootOps g now ≡ steps ++ closeOps g S
     copy-wants =
@@ -258,7 +258,7 @@ module _ {g : Geometry} {N t : ℕ} {A R : List ℕ} {f₀ : Flash} (course : Co
     -- where no step is left, none is wanted
     none-left : rest ≡ 0 → steps ≡ []
     none-left e =
-        copies-none g now N 0 (2 * N) (omega (arith, found .sum, found .reads .done, revert-count N 0 (2 * N)))
+        copies-past g now N 0 (2 * N) (omega (arith, found .sum, found .reads .done, revert-count N 0 (2 * N)))
 
     copy-run : (k : ℕ) → Turned now (suc rest) k (bootOps g now)
     copy-run k =
@@ -268,38 +268,37 @@ module _ {g : Geometry} {N t : ℕ} {A R : List ℕ} {f₀ : Flash} (course : Co
         some x y (yes z) = omega arith
         some x y (no z) = absurd (omega (arith, course .cost now, ap length (none-left (omega (arith, lt-of-not-le z)))))
 
-        go : Outcome g N S h (2 * N) cs rest now k steps → Turned now (suc rest) k (steps ++ closeOps g S)
+        go : Went g N S h (2 * N) cs rest now k steps → Turned now (suc rest) k (steps ++ closeOps g S)
         go (through l d none) =
             tail-run erased (copying (on-end g N S h cs (2 * N) f₀ (course .way))) now (suc rest) k steps l d
             (found .reads .swap) (omega arith) (λ x y. some x y (decLe 1 rest))
         go (stopped l c z b gain still o) =
-            let at : applyAll (take k (steps ++ closeOps g S)) now ≡ applyAll (take k steps) now =
-            cut-first k steps (closeOps g S) now (omega (arith, c)) in
+            let at : after k (steps ++ closeOps g S) now ≡ after k steps now =
+            after-within k steps (closeOps g S) now c in
             cut (suc l) (omega (arith, length-append steps (closeOps g S)))
             (λ x. omega (arith, gain x))
-            (copying (subst (λ (x : Flash). On g N S h x (2 * N) cs l) (sym at) o))
+            (copying (subst (λ (x : Flash). OnWay g N S h x (2 * N) cs l) (sym at) o))
             (inr (
               λ r one most q. omega (arith, c, length-append steps (closeOps g S), close-count g S),
               ap (λ (x : Flash). readState (g .ws) (x .state)) at
-                  ∙ on-found g N S h (applyAll (take k steps) now) o .reads .swap,
+                  ∙ on-stage g N S h (after k steps now) o .reads .swap,
             ))
 
     -- below the next step's cost a run is cut, and gains no step
     pub revert-stay : 0 < rest → (k : ℕ) → k < nextCost g now
-        → (k < length (bootOps g now)) × On g N S h (after k (bootOps g now) now) (2 * N) cs rest
-    unfolding after
+        → (k < length (bootOps g now)) × OnWay g N S h (after k (bootOps g now) now) (2 * N) cs rest
     revert-stay some k few =
-        subst (λ (os : List Op). (k < length os) × On g N S h (applyAll (take k os) now) (2 * N) cs rest) (sym copy-wants)
+        subst (λ (os : List Op). (k < length os) × OnWay g N S h (after k os now) (2 * N) cs rest) (sym copy-wants)
         (go (run-on g (course .whole) N S h now on k))
       where
-        go : Outcome g N S h (2 * N) cs rest now k steps
-            → (k < length (steps ++ closeOps g S)) × On g N S h (applyAll (take k (steps ++ closeOps g S)) now) (2 * N) cs rest
+        go : Went g N S h (2 * N) cs rest now k steps
+            → (k < length (steps ++ closeOps g S)) × OnWay g N S h (after k (steps ++ closeOps g S) now) (2 * N) cs rest
         go (through l d none) = absurd (omega (arith, none few))
         go (stopped l c z b gain still o) = (
           omega (arith, length-append steps (closeOps g S)),
-          subst (λ (x : Flash). On g N S h x (2 * N) cs rest)
-              (sym (cut-first k steps (closeOps g S) now (omega (arith, c))))
-              (subst (λ (i : ℕ). On g N S h (applyAll (take k steps) now) (2 * N) cs i) (still few) o),
+          subst (λ (x : Flash). OnWay g N S h x (2 * N) cs rest)
+              (sym (after-within k steps (closeOps g S) now c))
+              (subst (λ (i : ℕ). OnWay g N S h (after k steps now) (2 * N) cs i) (still few) o),
         )
 
     pub revert-at : progress (g .ws) (now .state) + rest ≡ 4 * N
@@ -314,10 +313,9 @@ module _ {g : Geometry} {N t : ℕ} {A R : List ℕ} {f₀ : Flash} (course : Co
 
   pub revert-kept : (now : Flash) (m : ℕ) → Turning now m → (k : ℕ) → k < length (bootOps g now)
       → Kept Turning (after k (bootOps g now) now) k (nextCost g now) m
-  unfolding after
   revert-kept now m on k short = go (revert-run now m on k)
     where
-      go : Turned now m k (bootOps g now) → Kept Turning (applyAll (take k (bootOps g now)) now) k (nextCost g now) m
+      go : Turned now m k (bootOps g now) → Kept Turning (after k (bootOps g now) now) k (nextCost g now) m
       go (ends l d s) = absurd (not-le-of-lt short l)
       go (idle j one most e d) = absurd (omega (arith, ap length d))
       go (cut l c gain o w) = record { rest = l; inv = o; gain = gain }
@@ -330,7 +328,7 @@ module _ {g : Geometry} {N t : ℕ} {A R : List ℕ} {f₀ : Flash} (course : Co
 
   -- where steps are left: the progress is below 4N, and something is wanted
   steps-left : (now : Flash) (m : ℕ) → Turning now m → 0 < length (bootOps g now) → progress (g .ws) (now .state) < 4 * N
-      → (rest : ℕ) × (m ≡ suc rest) × On g N S h now (2 * N) (revertFrom N 0 (2 * N)) rest
+      → (rest : ℕ) × (m ≡ suc rest) × OnWay g N S h now (2 * N) (revertFrom N 0 (2 * N)) rest
   steps-left now m (copying {rest = rest} on) wanted few = (rest, refl, on)
   steps-left now m (voided e) wanted few =
       absurd
@@ -353,7 +351,7 @@ module _ {g : Geometry} {N t : ℕ} {A R : List ℕ} {f₀ : Flash} (course : Co
         let left = steps-left now m on (omega arith) few in
         go (left .0) (left .2) (o .rest) (o .inv) (omega (arith, o .gain paid, left .1))
       where
-        go : (rest : ℕ) → On g N S h now (2 * N) (revertFrom N 0 (2 * N)) rest → (l : ℕ) → Turning next l → l < suc rest
+        go : (rest : ℕ) → OnWay g N S h now (2 * N) (revertFrom N 0 (2 * N)) rest → (l : ℕ) → Turning next l → l < suc rest
             → progress (g .ws) (now .state) < progress (g .ws) (next .state)
         go rest o l (copying {rest = fewer} o′) less = omega (arith, revert-at now rest o, revert-at next fewer o′)
         go rest o l (voided e) less = omega (arith, past-steps next 1 (voided e) (omega arith) swap)
@@ -381,12 +379,11 @@ module _ {g : Geometry} {N t : ℕ} {A R : List ℕ} {f₀ : Flash} (course : Co
   revert-last now m (emptied j one most q) e = omega (arith, ap length (ap (bootOps g) q ∙ gone-idle j one most))
 
   pub revert-place : (now : Flash) (m : ℕ) → Turning now m → (k : ℕ) → k < length (bootOps g now)
-      → Place g U gone (λ (r : ℕ). k + r ≡ length (bootOps g now)) (after k (bootOps g now) now)
-  unfolding after
+      → LastCut g U gone (λ (r : ℕ). k + r ≡ length (bootOps g now)) (after k (bootOps g now) now)
   revert-place now m on k short = go (revert-run now m on k)
     where
       go : Turned now m k (bootOps g now)
-          → Place g U gone (λ (r : ℕ). k + r ≡ length (bootOps g now)) (applyAll (take k (bootOps g now)) now)
+          → LastCut g U gone (λ (r : ℕ). k + r ≡ length (bootOps g now)) (after k (bootOps g now) now)
       go (ends l d s) = absurd (not-le-of-lt short l)
       go (idle j one most e d) = absurd (omega (arith, ap length d))
       go (cut l c gain o w) = w

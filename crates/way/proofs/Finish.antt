@@ -1,24 +1,27 @@
 -- The operations that end a revert, on a state area that may hold anything: invalidate, erase the state area unit by unit, write the
--- magic; all but the first are those of every mark. Cited by Reverted, Settled, Marking, Confirmed and
--- Counts. Assumes nothing.
+-- magic; all but the first are those of every mark, and of a confirmation that a boot finishes. Serves `power`, `confirming`,
+-- `settles`, `marking` and `every-count`. Assumes nothing.
 use mathlib.Core.Path.{_≡_, refl, sym, ap, _∙_}
 use mathlib.Core.List.{List, [], _∷_}
-use Prim.Native.Nat.{ℕ, suc, _+_, _-_, _*_, _/_, _≤_}
+use mathlib.Core.Logic.{_⊎_, inl, inr}
+use Prim.Native.Nat.{ℕ, suc, _+_, _-_, _*_, _/_, _≤_, _<_}
 use native.Mathlib.Omega.{arith}
-use lib.ListN.{length, take, replicate, length-append, length-replicate, replicate-append-replicate}
+use native.Mathlib.Nat.{eq-or-lt-of-le}
+use lib.ListN.{length, replicate, length-append, length-replicate, replicate-append-replicate}
 use Rattle.state.specs.declared.State.{State}
 use Rattle.state.specs.declared.State.the-variants.{Revert}
 use Rattle.state.specs.Magic.{erased, marked, magic}
 use Rattle.geometry.specs.declared.Geometry.{Geometry}
-use Rattle.mem_flash.specs.Flash.{state, Flash, Op, blank, erasedAt, writtenAt, change, apply, applyAll, eraseOps}
+use Rattle.mem_flash.specs.Flash.{state, Flash, Op, blank, erasedAt, writtenAt, change, apply, applyAll, eraseOps, after}
 use Rattle.mem_flash.specs.Run.{placed}
+use Rattle.mem_flash.proofs.Stretches.{bytes-replicate, blank-all, written-erased, length-written}
+use Rattle.mem_flash.proofs.Areas.{flash-path}
+use Rattle.mem_flash.proofs.After.{apply-append, after-within, after-next, after-between}
+use Rattle.mem_flash.proofs.Erases.{erase-count, state-part, erase-whole, erase-units}
 use Rattle.rules.specs.StateArea.{invalidateOp, magicOp}
 use Rattle.rules.specs.Boot.{renewOps, finishOps}
 use Rattle.rules.specs.Power.{magicArea}
-use Rattle.power.proofs.Bytes.{bytes-replicate, blank-all, written-erased, length-written}
-use Rattle.power.proofs.Words.{magic-byte}
-use Rattle.power.proofs.Areas.{flash-path, apply-append, cut-first}
-use Rattle.power.proofs.Erases.{erase-count, erase-part, erase-whole}
+use Rattle.rules.proofs.Spread.{magic-byte}
 
 -- the images A and R with the state area st
 unfoldable pub closed : List ℕ → List ℕ → List ℕ → Flash
@@ -49,12 +52,7 @@ module _ (A R : List ℕ) where
   unfolding invalidateOp apply change closed
   invalidated w st = refl
 
-  -- the first units of the state area erased, and all of them
-  wiped-part : (es n j : ℕ) (st : List ℕ) → j ≤ n / es
-      → applyAll (take j (eraseOps es state 0 n)) (closed A R st) ≡ closed A R (blank (j * es) st)
-  unfolding placed change closed erasedAt
-  wiped-part es n j st h = erase-part es state 0 n j st (closed A R st) h
-
+  -- the state area erased
   wiped : (es n : ℕ) (st : List ℕ) → n / es * es ≡ n → length st ≡ n
       → applyAll (eraseOps es state 0 n) (closed A R st) ≡ closed A R (replicate n erased)
   unfolding placed change closed erasedAt
@@ -89,23 +87,43 @@ module _ (A R : List ℕ) where
       ∙ renewed Revert (g .es) (g .ws) n (writtenAt (g .ws) (replicate (g .ws) marked) st) whole
       (length-written (g .ws) (replicate (g .ws) marked) st ∙ e) h
 
-  -- cut after j units, they hold the first units erased, and the rest as it was
+  -- cut inside the erase: its first units are erased, and the rest is as it was
+  renew-erasing : (es w n m j : ℕ) (st : List ℕ) → j < n / es
+      → after j (renewOps es w n m) (closed A R st) ≡ closed A R (blank (j * es) st)
+  unfolding renewOps placed change closed
+  renew-erasing es w n m j st h =
+      after-within j (eraseOps es state 0 n) (magicOp w m ∷ []) (closed A R st) (omega (arith, erase-count es state 0 n))
+      ∙ state-part es n j st (closed A R st) h
+
+  -- cut at the magic: all units are
+  renew-unsigned : (es w n m : ℕ) (st : List ℕ)
+      → after (n / es) (renewOps es w n m) (closed A R st) ≡ closed A R (blank (n / es * es) st)
+  unfolding renewOps placed change closed erasedAt
+  renew-unsigned es w n m st =
+      ap (λ (i : ℕ). after i (renewOps es w n m) (closed A R st)) (sym (erase-count es state 0 n))
+      ∙ after-between (eraseOps es state 0 n) (magicOp w m ∷ []) (closed A R st)
+      ∙ erase-units es state 0 n st (closed A R st)
+
+  -- so, with j operations: the first j units
   pub renew-part : (es w n m j : ℕ) (st : List ℕ) → j ≤ n / es
-      → applyAll (take j (renewOps es w n m)) (closed A R st) ≡ closed A R (blank (j * es) st)
-  unfolding renewOps
-  renew-part es w n m j st h =
-      cut-first j (eraseOps es state 0 n) (magicOp w m ∷ []) _ (omega (arith, erase-count es state 0 n)) ∙ wiped-part es n j st h
+      → after j (renewOps es w n m) (closed A R st) ≡ closed A R (blank (j * es) st)
+  renew-part es w n m j st h = go (eq-or-lt-of-le h)
+    where
+      go : (j ≡ n / es) ⊎ (j < n / es) → after j (renewOps es w n m) (closed A R st) ≡ closed A R (blank (j * es) st)
+      go (inl e) = rw e (renew-unsigned es w n m st)
+      go (inr l) = renew-erasing es w n m j st l
 
   -- and with the invalidation first, invalid
   pub void-part : (es w n m j : ℕ) (st : List ℕ) → j ≤ n / es
-      → applyAll (take (suc j) (invalidateOp w ∷ renewOps es w n m)) (closed A R st)
+      → after (suc j) (invalidateOp w ∷ renewOps es w n m) (closed A R st)
       ≡ closed A R (blank (j * es) (writtenAt w (replicate w marked) st))
-  unfolding applyAll
   void-part es w n m j st h =
-      ap (applyAll (take j (renewOps es w n m))) (invalidated w st) ∙ renew-part es w n m j (writtenAt w (replicate w marked) st) h
+      after-next j (invalidateOp w) (renewOps es w n m) (closed A R st)
+      ∙ ap (after j (renewOps es w n m)) (invalidated w st)
+      ∙ renew-part es w n m j (writtenAt w (replicate w marked) st) h
 
   pub close-part : (g : Geometry) (n j : ℕ) (st : List ℕ) → j ≤ n / g .es
-      → applyAll (take (suc j) (closeOps g n)) (closed A R st)
+      → after (suc j) (closeOps g n) (closed A R st)
       ≡ closed A R (blank (j * g .es) (writtenAt (g .ws) (replicate (g .ws) marked) st))
   unfolding closeOps
   close-part g n j st h = void-part (g .es) (g .ws) n (magic Revert) j st h

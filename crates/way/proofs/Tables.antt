@@ -1,6 +1,6 @@
 -- The flash after each whole step, as one table for all 4N + 1 stages: c pages of active and d of DFU are the old ones, and n
--- marks are done. The steps of the swap and of the revert lead from table to table. Cited by Start, Swapped, Reverted and Proved.
--- Assumes nothing.
+-- marks are done. The steps of the swap and of the revert lead from table to table. Serves `power`; the lists of steps also
+-- `every-count` and `settles`. Assumes nothing.
 use mathlib.Core.Path.{_≡_, refl, sym, ap, ap₂, _∙_, subst}
 use mathlib.Core.List.{List, [], _∷_}
 use Prim.Native.Nat.{ℕ, zero, suc, _+_, _-_, _*_, _/_, _%_, _≤_, _<_}
@@ -12,16 +12,17 @@ use Rattle.geometry.specs.declared.Geometry.{Geometry}
 use Rattle.geometry.specs.Geometry.{page, pages}
 use Rattle.mem_flash.specs.Flash.{active, dfu, Flash, writtenAt, change}
 use Rattle.mem_flash.specs.Run.{placed}
+use Rattle.mem_flash.specs.Areas.{Bytes, areaOf, Image}
+use Rattle.mem_flash.proofs.Stretches.{bytes-take, bytes-drop, bytes-append}
+use Rattle.mem_flash.proofs.Areas.{flash-path}
 use Rattle.rules.specs.Steps.{Copy, toDfu, toActive, swapFrom, revertFrom, sourceOf, pageCount}
 use Rattle.rules.specs.Power.{pageAt, withPage, stepTo}
-use Rattle.power.specs.Power.{Bytes}
-use Rattle.power.specs.Inside.{areaOf}
-use Rattle.power.proofs.Bytes.{bytes-take, bytes-drop, bytes-append}
-use Rattle.power.proofs.Pages.{mix, pages-le, length-mix, page-mix-left, page-mix-right, mix-up, mix-down}
-use Rattle.power.proofs.Words.{spread, marks, length-spread, length-marks, reads-swap, counted, progress-marks, confirming-counted, mark-next}
-use Rattle.power.proofs.Areas.{Image, flash-path}
-use Rattle.power.proofs.Steps.{stepped, even-dfu, odd-active}
-use Rattle.power.proofs.Way.{Reads, Leg, Way}
+use Rattle.rules.proofs.Pages.{mix, pages-le, length-mix, page-mix-left, page-mix-right, mix-up, mix-down}
+use Rattle.rules.proofs.Spread.{spread, length-spread}
+use Rattle.rules.proofs.MarkedArea.{marks, length-marks, reads-swap, counted, progress-marks, confirming-counted, mark-next}
+use Rattle.way.proofs.Steps.{stepped}
+use Rattle.way.proofs.Costs.{even-dfu, odd-active}
+use Rattle.way.proofs.Way.{Reads, Leg, Way}
 
 -- ---- the lists of steps, counted by one
 

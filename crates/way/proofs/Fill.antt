@@ -1,0 +1,110 @@
+-- A page filled, from a page that may hold anything: erased unit by unit, then written in chunks. Done whole it holds the source's
+-- page; cut anywhere, nothing but the page is touched. Serves `power`, and what a step does in every other theorem. Assumes nothing.
+use mathlib.Core.Path.{_≡_, refl, sym, ap, _∙_, subst}
+use mathlib.Core.List.{List, _++_}
+use Prim.Native.Nat.{ℕ, zero, suc, _+_, _-_, _*_, _/_, _≤_, _<_}
+use native.Mathlib.Nat.{mul-le-mul-right, not-suc-le-zero, le-of-suc-le-suc, lt-of-not-le}
+use native.Mathlib.Decide.{decLe}
+use native.Mathlib.Omega.{arith}
+use lib.ListN.{length, take, drop, length-append}
+use Rattle.mem_flash.specs.Flash.{Area, Flash, Op, write, erasedAt, writtenAt, applyAll, eraseOps, after}
+use Rattle.mem_flash.specs.Run.{placed}
+use Rattle.mem_flash.specs.Areas.{Bytes}
+use Rattle.mem_flash.proofs.Runs.{write-placed}
+use Rattle.mem_flash.proofs.Stretches.{Beside, beside-erased}
+use Rattle.mem_flash.proofs.Chunks.{chunked, beside-chunked, filled}
+use Rattle.mem_flash.proofs.After.{apply-append, after-within, after-first, after-next, after-behind}
+use Rattle.mem_flash.proofs.Erases.{Held, erase-count, erase-whole, erase-held}
+use Rattle.rules.specs.Steps.{chunkOps, fillOps}
+
+-- ---- the chunks of a copy
+
+chunks-placed : (n : ℕ) (a : Area) (at from b : ℕ) (source xs : List ℕ) (f : Flash)
+    → applyAll (chunkOps n a at from b source) (placed a xs f) ≡ placed a (chunked n at from b source xs) f
+unfolding applyAll chunkOps chunked
+chunks-placed zero a at from b source xs f = refl
+chunks-placed (suc n) a at from b source xs f =
+    ap (applyAll (chunkOps n a (at + b) (from + b) b source)) (write-placed a at (take b (drop from source)) xs f)
+    ∙ chunks-placed n a (at + b) (from + b) b source (writtenAt at (take b (drop from source)) xs) f
+
+pub chunks-count : (n : ℕ) (a : Area) (at from b : ℕ) (source : List ℕ) → length (chunkOps n a at from b source) ≡ n
+unfolding chunkOps
+chunks-count zero a at from b source = refl
+chunks-count (suc n) a at from b source = ap suc (chunks-count n a (at + b) (from + b) b source)
+
+-- cut at a chunk: those before it are written, and it is as it was
+chunks-part : (j n : ℕ) (a : Area) (at from b : ℕ) (source xs : List ℕ) (f : Flash) → j < n
+    → after j (chunkOps n a at from b source) (placed a xs f) ≡ placed a (chunked j at from b source xs) f
+unfolding chunkOps chunked
+chunks-part j zero a at from b source xs f h = absurd (not-suc-le-zero h)
+chunks-part zero (suc n) a at from b source xs f h = after-first (chunkOps (suc n) a at from b source) (placed a xs f)
+chunks-part (suc j) (suc n) a at from b source xs f h =
+    after-next j (write a at (take b (drop from source))) (chunkOps n a (at + b) (from + b) b source) (placed a xs f)
+    ∙ ap (after j (chunkOps n a (at + b) (from + b) b source)) (write-placed a at (take b (drop from source)) xs f)
+    ∙ chunks-part j n a (at + b) (from + b) b source (writtenAt at (take b (drop from source)) xs) f (le-of-suc-le-suc h)
+
+-- ---- a page filled
+
+pub fill-placed : (unit p b at from : ℕ) (a : Area) (source ys : List ℕ) (f : Flash) → p / unit * unit ≡ p
+    → applyAll (fillOps unit p b at from source a) (placed a ys f)
+    ≡ placed a (chunked (p / b) at from b source (erasedAt at p ys)) f
+unfolding fillOps
+fill-placed unit p b at from a source ys f units =
+    apply-append (eraseOps unit a at p) (chunkOps (p / b) a at from b source) (placed a ys f)
+    ∙ ap (applyAll (chunkOps (p / b) a at from b source)) (erase-whole unit a at p units ys f)
+    ∙ chunks-placed (p / b) a at from b source (erasedAt at p ys) f
+
+module _ (unit p b at from : ℕ) (a : Area) (source base ys : List ℕ) (f : Flash)
+    (units : p / unit * unit ≡ p) (whole : p / b * b ≡ p) (fit : at + p ≤ length base) (near : Beside at p base ys) where
+  abbrev erases : List Op
+  erases = eraseOps unit a at p
+
+  abbrev chunks : List Op
+  chunks = chunkOps (p / b) a at from b source
+
+  pub fill-count : length (fillOps unit p b at from source a) ≡ p / unit + p / b
+  unfolding fillOps
+  fill-count = omega (arith, length-append erases chunks, erase-count unit a at p, chunks-count (p / b) a at from b source)
+
+  pub fill-whole : Bytes source → from + p ≤ length source
+      → applyAll (fillOps unit p b at from source a) (placed a ys f)
+      ≡ placed a (take at base ++ (take p (drop from source) ++ drop (at + p) base)) f
+  fill-whole bytes inside =
+      fill-placed unit p b at from a source ys f units
+      ∙ ap (λ (l : List ℕ). placed a l f) (filled (p / b) at from b p source base ys whole bytes inside fit near)
+
+  -- the erase, and then some chunks, touch nothing but the page
+  chunks-beside : (j : ℕ) → j ≤ p / b → Beside at p base (chunked j at from b source (erasedAt at p ys))
+  chunks-beside j l =
+      beside-chunked at p b source base fit j at from (erasedAt at p ys) (omega arith)
+      (omega (arith, mul-le-mul-right b l, whole))
+      (beside-erased at p at p base ys (omega arith) (omega arith) fit near)
+
+  pub fill-held : Held at p a base f (applyAll (fillOps unit p b at from source a) (placed a ys f))
+  fill-held =
+      record {
+        held = chunked (p / b) at from b source (erasedAt at p ys);
+        same = fill-placed unit p b at from a source ys f units;
+        beside = chunks-beside (p / b) (omega arith);
+      }
+
+  -- and so does what a cut inside leaves of them
+  pub fill-cut : (k : ℕ) → k < p / unit + p / b → Held at p a base f (after k (fillOps unit p b at from source a) (placed a ys f))
+  unfolding fillOps
+  fill-cut k few = go (decLe (length erases) k)
+    where
+      go : Dec (length erases ≤ k) → Held at p a base f (after k (erases ++ chunks) (placed a ys f))
+      go (no h) =
+          subst (λ (x : Flash). Held at p a base f x) (sym (after-within k erases chunks (placed a ys f) (lt-of-not-le h)))
+          (erase-held unit a at p base ys f fit near k (omega (arith, lt-of-not-le h, erase-count unit a at p)))
+      go (yes h) =
+          let j : ℕ = k - length erases in
+          let l : j < p / b = omega (arith, erase-count unit a at p) in
+          record {
+            held = chunked j at from b source (erasedAt at p ys);
+            same =
+                after-behind k erases chunks (placed a ys f) h
+                ∙ ap (after j chunks) (erase-whole unit a at p units ys f)
+                ∙ chunks-part j (p / b) a at from b source (erasedAt at p ys) f l;
+            beside = chunks-beside j (omega arith);
+          }

@@ -1,0 +1,11 @@
+pub mod Costs
+pub mod Fill
+pub mod Steps
+pub mod Way
+pub mod Tables
+pub mod Images
+pub mod Sized
+pub mod Finish
+pub mod Wanted
+pub mod Swapped
+pub mod Reverted
