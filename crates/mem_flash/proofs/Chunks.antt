@@ -59,11 +59,11 @@ chunked-erased (suc n) at from b source before behind e h fit =
     ∙ ap (λ (k : ℕ). take k (drop from source)) (sym c)))
 
 -- a page erased and filled in chunks holds the source's page, whatever it held
-pub filled : (n at from b p : ℕ) (source xs ys : List ℕ) → n * b ≡ p → Bytes source → from + p ≤ length source
+pub page-filled : (n at from b p : ℕ) (source xs ys : List ℕ) → n * b ≡ p → Bytes source → from + p ≤ length source
     → at + p ≤ length xs
     → Beside at p xs ys
     → chunked n at from b source (erasedAt at p ys) ≡ take at xs ++ (take p (drop from source) ++ drop (at + p) xs)
-filled n at from b p source xs ys e h hs ht near =
+page-filled n at from b p source xs ys e h hs ht near =
     ap (chunked n at from b source) (erased-beside at p xs ys ht near ∙ erased-within at p xs ht)
     ∙ subst
     (λ (z : ℕ). chunked n at from b source (take at xs ++ (replicate z erased ++ drop (at + p) xs))

@@ -226,8 +226,8 @@ module _ (g : Geometry) where
 -- ---- calls
 
 -- a report reads of a call its refusal, its state and how many operations it has
-told : ℕ → Option State → ℕ → ℕ → Report
-told r s n k =
+reportOf : ℕ → Option State → ℕ → ℕ → Report
+reportOf r s n k =
     pick (eqb r 0)
     (pick (leb n k) (record { number = 0; state = s; count = n }) (record { number = 7; state = none; count = k }))
     (record { number = r; state = none; count = 0 })
@@ -240,10 +240,10 @@ left-alike false f f′ h h′ e e′ = e′
 -- two calls with the same refusal, the same state and operations that are alike
 same-answers : (c d : Call) (f h : Flash) → c .refusal ≡ d .refusal → c .state ≡ d .state → AlikeOps (c .ops) (d .ops) → Alike f h
     → SameAnswers c d f h
-unfolding told report left
+unfolding reportOf report left
 same-answers c d f h r s o e =
     record {
-      answers = λ k. λ i. told (r i) (s i) (alike-count o i) k;
+      answers = λ k. λ i. reportOf (r i) (s i) (alike-count o i) k;
       leaves = λ k.
           subst (λ (n : ℕ). Alike (left c k f) (pick (eqb n 0) (after k (d .ops) h) h)) r
           (left-alike (eqb (c .refusal) 0) (after k (c .ops) f) f (after k (d .ops) h) h (alike-after k o f h e) e);

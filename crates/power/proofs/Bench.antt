@@ -20,7 +20,7 @@ use Rattle.power.specs.Bench.{noPages, OnTheBench, fine, fineCase, finel
 use Rattle.power.specs.Confirm.{Swapped, firmware-state, CutConfirmation, confirmedPart, confirmedWhole}
 use Rattle.power.proofs.Proved.{power}
 use Rattle.power.proofs.NoPages.{no-pages}
-use Rattle.power.proofs.Confirmed.{confirming as cut-confirmed}
+use Rattle.power.proofs.Confirmed.{confirmed}
 
 ready : Ready (sizes 16) (fresh 15)
 unfolding pick erased magic page pages words any rowFrom lowest mostNumber mostLength badNumber tooLong uneven outside unevenPage unevenAreas badState bootWords bootNumbers bootRefusal pageCount magicArea Fresh sizes fresh filled ff
@@ -97,6 +97,6 @@ unconfirmed =
       swapped = swapped;
       cut = cut-one;
       confirms =
-          cut-confirmed (sizes 16) (swapTable (sizes 16) (fresh 15)) swapped confirmation firmware-state 1 cut-one;
+          confirmed (sizes 16) (swapTable (sizes 16) (fresh 15)) swapped confirmation firmware-state 1 cut-one;
       booted = refl;
     }

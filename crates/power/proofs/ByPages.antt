@@ -13,7 +13,7 @@ use Rattle.mem_flash.specs.Flash.{Flash}
 use Rattle.rules.specs.Steps.{pageCount}
 use Rattle.rules.specs.Power.{pageAt, swapTable, revertImages, revertMarks}
 use Rattle.rules.proofs.Pages.{pages-le, length-page, page-put, before-put, behind-put, length-put}
-use Rattle.way.proofs.Images.{newDfu, images, behind}
+use Rattle.way.proofs.Images.{newDfu, images, dfu-behind}
 use Rattle.way.proofs.Sized.{Sized, sized}
 use Rattle.way.proofs.Finish.{closed}
 use Rattle.power.specs.Power.{Ready, ran, runs}
@@ -37,7 +37,7 @@ module _ (g : Geometry) (f : Flash) (r : Ready g f) where
         dfu-first =
             take-at (take (page g) (f .dfu)) (f .active ++ drop (page g + length (f .active)) (f .dfu)) (page g)
             (length-take-le (page g) (f .dfu) (omega (arith, s .paged .dfu)));
-        dfu-rest = behind (s .paged);
+        dfu-rest = dfu-behind (s .paged);
         active-length = im .active-same;
         dfu-length = im .dfu-same;
       }

@@ -11,7 +11,7 @@ use Rattle.power.specs.Power.{Ready, answer, ran, Cut, runs, AllCut, Fir
 use Rattle.power.specs.Carried.{CutRuns, none, more, Then, CodePower, BootRuns, no-run, next-run, CutThen, CodeConfirms}
 use Rattle.power.specs.Confirm.{Swapped, CutConfirmation}
 use Rattle.power.proofs.Proved.{power}
-use Rattle.power.proofs.Confirmed.{confirming}
+use Rattle.power.proofs.Confirmed.{confirmed}
 
 -- cut runs of the code are the definition's
 cut-flash : {g : Geometry} {ks : List ℕ} {f h : Flash} → CutRuns g ks f h → runs g ks f ≡ h
@@ -29,9 +29,9 @@ module _ {g : Geometry} {ks : List ℕ} {k : ℕ} {f h h′ : Flash} {r : Answer
   reached : runs g ks f ≡ h
   reached = cut-flash (t .cuts)
 
-  told : reported r ≡ answer g k (runs g ks f)
+  answered : reported r ≡ answer g k (runs g ks f)
   unfolding answer
-  told = rw reached (t .run .answer)
+  answered = rw reached (t .run .answer)
 
   leaves : h′ ≡ ran g k (runs g ks f)
   unfolding ran
@@ -39,16 +39,16 @@ module _ {g : Geometry} {ks : List ℕ} {k : ℕ} {f h h′ : Flash} {r : Answer
 
   first : FirstWhole g ks k f
   unfolding Cut
-  first = record { cuts = all-cut (t .cuts); whole = λ c. t .whole (ap (λ (q : Report). q .number) told ∙ c) }
+  first = record { cuts = all-cut (t .cuts); whole = λ c. t .whole (ap (λ (q : Report). q .number) answered ∙ c) }
 
 pub code-power : (g : Geometry) (f : Flash) → Ready g f → CodePower g f
 code-power g f m =
     let p = power g f m in
     record {
-      swaps = λ t. (let e = p .swaps _ _ (first t) in (leaves t ∙ e .flash, ap (λ (q : Report). q .state) (told t) ∙ e .state));
-      reverts = λ t n. (let e = p .reverts _ _ (first t) n in (leaves t ∙ e .flash, ap (λ (q : Report). q .state) (told t) ∙ e .state));
+      swaps = λ t. (let e = p .swaps _ _ (first t) in (leaves t ∙ e .flash, ap (λ (q : Report). q .state) (answered t) ∙ e .state));
+      reverts = λ t n. (let e = p .reverts _ _ (first t) n in (leaves t ∙ e .flash, ap (λ (q : Report). q .state) (answered t) ∙ e .state));
       rests = λ n t one most o.
-          (let e = p .rests _ _ n (first t) one most o in (leaves t ∙ e .flash, ap (λ (q : Report). q .state) (told t ∙ e .answers)));
+          (let e = p .rests _ _ n (first t) one most o in (leaves t ∙ e .flash, ap (λ (q : Report). q .state) (answered t ∙ e .answers)));
       swap-soon = λ a w. p .swap-soon _ a (all-cut w);
       revert-soon = λ a w. p .revert-soon _ a (all-cut w);
     }
@@ -71,7 +71,7 @@ module _ {g : Geometry} {c : Call} {k : ℕ} {ks : List ℕ} {f x h : Flash} {r 
 pub code-confirms : (g : Geometry) (f : Flash) → Swapped g f → CodeConfirms g f
 code-confirms g f s =
     record {
-      active = λ m t. ap (λ (y : Flash). y .active) (sym (booted t)) ∙ confirming g f s _ m _ (was-cut t) .active _;
-      dfu = λ m t. ap (λ (y : Flash). y .dfu) (sym (booted t)) ∙ confirming g f s _ m _ (was-cut t) .dfu _;
-      never = λ m t q. confirming g f s _ m _ (was-cut t) .never _ (ap (λ (y : Flash). readState (g .ws) (y .state)) (booted t) ∙ q);
+      active = λ m t. ap (λ (y : Flash). y .active) (sym (booted t)) ∙ confirmed g f s _ m _ (was-cut t) .active _;
+      dfu = λ m t. ap (λ (y : Flash). y .dfu) (sym (booted t)) ∙ confirmed g f s _ m _ (was-cut t) .dfu _;
+      never = λ m t q. confirmed g f s _ m _ (was-cut t) .never _ (ap (λ (y : Flash). readState (g .ws) (y .state)) (booted t) ∙ q);
     }

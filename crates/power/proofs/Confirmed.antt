@@ -1,4 +1,4 @@
--- A confirmation that was cut (specs/Confirm): `confirming`. Its state area is that of a finished swap, invalid, with so many units
+-- A confirmation that was cut (specs/Confirm): `confirmed`. Its state area is that of a finished swap, invalid, with so many units
 -- erased: with none a boot finishes the erase and writes the Boot magic, with some it reads Boot. One lemma for one run, then any
 -- number of them. Assumes nothing.
 use mathlib.Core.Path.{_≡_, refl, sym, ap, ap₂, _∙_, subst}
@@ -22,16 +22,16 @@ use Rattle.mem_flash.proofs.After.{after-all, after-none}
 use Rattle.rules.specs.StateArea.{word, readState, valid, marksDone, invalidateOp}
 use Rattle.rules.specs.Steps.{pageCount}
 use Rattle.rules.specs.Calls.{Call, left}
-use Rattle.rules.specs.Boot.{renewOps, confirming as pending, bootOps}
+use Rattle.rules.specs.Boot.{renewOps, confirming, bootOps}
 use Rattle.rules.specs.FirmwareState.{setMagicOps, mark}
 use Rattle.rules.specs.FirmwareUpdater.{updaterCall, updaterMark, updaterMarkBooted}
 use Rattle.rules.specs.Power.{swapMarks, stateUnits, voidMarks}
 use Rattle.rules.proofs.Spread.{spread, length-spread, boot-reads, area-reads, blank-boot}
-use Rattle.rules.proofs.MarkedArea.{marks, length-marks, reads-swap, done-marks, counted, void, not-booted, confirming-swapped, void-written, swapped-marks, void-marks}
+use Rattle.rules.proofs.MarkedArea.{markWords, length-marks, reads-swap, done-marks, marks-valid, marks-void, not-booted, confirming-swapped, void-written, swapped-marks, void-marks}
 use Rattle.rules.proofs.Endings.{state-rows, updater-rows, ending, is-cut, left-admitted}
 use Rattle.way.proofs.Finish.{closed, renew-count, renewed, renew-part, void-part}
 use Rattle.way.proofs.Sized.{Sized, sized}
-use Rattle.way.proofs.Wanted.{boot-idle, boot-confirms}
+use Rattle.way.proofs.Wanted.{wants-none, wants-renewal}
 use Rattle.power.specs.Power.{answer, ran, runs, AllCut}
 use Rattle.power.specs.Confirm.{Swapped, firmware-state, updater, CutConfirmation, confirmedPart, confirmedWhole, unitsErased, Confirms, Confirming}
 use Rattle.power.proofs.Runs.{Admits, ran-after, admits-after, admits-ran, cut-short, whole-long, answer-done}
@@ -63,61 +63,61 @@ module _ (g : Geometry) (f : Flash) (s : Swapped g f) where
   room : 0 < t - 2 * N
   room = omega (arith, z .room)
 
-  void-is : spread (g .ws) (marks marked (2 * N) (t - 2 * N)) ≡ st₀
+  void-is : spread (g .ws) (markWords marked (2 * N) (t - 2 * N)) ≡ st₀
   void-is = void-marks (g .ws) (2 * N) t (omega (arith, z .room)) ∙ ap (voidMarks (g .ws) (2 * N)) (sym (z .state))
 
-  swapped-is : f .state ≡ spread (g .ws) (marks erased (2 * N) (t - 2 * N))
+  swapped-is : f .state ≡ spread (g .ws) (markWords erased (2 * N) (t - 2 * N))
   swapped-is =
       s .state ∙ ap (swapMarks (g .ws) N) (z .state) ∙ sym (swapped-marks (g .ws) N t (omega (arith, z .room)))
 
   void-size : length st₀ ≡ S
   void-size =
-      let e : length (marks marked (2 * N) (t - 2 * N)) ≡ 2 + t = omega (arith, z .room, length-marks marked (2 * N) (t - 2 * N)) in
-      ap length (sym void-is) ∙ length-spread (g .ws) (marks marked (2 * N) (t - 2 * N)) ∙ ap (λ (i : ℕ). i * g .ws) e
+      let e : length (markWords marked (2 * N) (t - 2 * N)) ≡ 2 + t = omega (arith, z .room, length-marks marked (2 * N) (t - 2 * N)) in
+      ap length (sym void-is) ∙ length-spread (g .ws) (markWords marked (2 * N) (t - 2 * N)) ∙ ap (λ (i : ℕ). i * g .ws) e
       ∙ sym (z .state)
 
   -- ---- no unit is erased yet
 
-  abbrev start : Flash
-  start = closed (f .active) (f .dfu) st₀
+  abbrev begun : Flash
+  begun = closed (f .active) (f .dfu) st₀
 
-  part-none : confirmedPart g 0 f ≡ start
+  part-none : confirmedPart g 0 f ≡ begun
   unfolding confirmedPart closed blank
   part-none = ap (λ (n : ℕ). closed (f .active) (f .dfu) (blank n st₀)) (zero-mul (g .es))
 
-  start-reads : readState (g .ws) (start .state) ≡ Swap
+  begun-reads : readState (g .ws) (begun .state) ≡ Swap
   unfolding closed
-  start-reads = ap (readState (g .ws)) (sym void-is) ∙ reads-swap (g .ws) (z .ws) marked (2 * N) (t - 2 * N) room
+  begun-reads = ap (readState (g .ws)) (sym void-is) ∙ reads-swap (g .ws) (z .ws) marked (2 * N) (t - 2 * N) room
 
-  start-pending : pending (g .ws) (pageCount g start) (start .state) ≡ true
+  begun-pending : confirming (g .ws) (pageCount g begun) (begun .state) ≡ true
   unfolding closed pageCount
-  start-pending =
-      let d : marksDone (g .ws) (spread (g .ws) (marks marked (2 * N) (t - 2 * N))) ≡ 2 * N =
+  begun-pending =
+      let d : marksDone (g .ws) (spread (g .ws) (markWords marked (2 * N) (t - 2 * N))) ≡ 2 * N =
       done-marks (g .ws) (z .ws) marked (2 * N) (t - 2 * N) room in
-      subst (λ (st : List ℕ). pending (g .ws) N st ≡ true) void-is
-      (confirming-swapped (g .ws) N (spread (g .ws) (marks marked (2 * N) (t - 2 * N)))
-      (void (g .ws) (z .ws) (2 * N) (t - 2 * N) room) (omega (arith, d)) (omega (arith, d, s .some-page)))
+      subst (λ (st : List ℕ). confirming (g .ws) N st ≡ true) void-is
+      (confirming-swapped (g .ws) N (spread (g .ws) (markWords marked (2 * N) (t - 2 * N)))
+      (marks-void (g .ws) (z .ws) (2 * N) (t - 2 * N) room) (omega (arith, d)) (omega (arith, d, s .some-page)))
 
-  start-wants : bootOps g start ≡ renewOps (g .es) (g .ws) S (magic Boot)
+  begun-wants : bootOps g begun ≡ renewOps (g .es) (g .ws) S (magic Boot)
   unfolding closed
-  start-wants =
-      boot-confirms g start start-reads start-pending ∙ ap (λ (n : ℕ). renewOps (g .es) (g .ws) n (magic Boot)) void-size
+  begun-wants =
+      wants-renewal g begun begun-reads begun-pending ∙ ap (λ (n : ℕ). renewOps (g .es) (g .ws) n (magic Boot)) void-size
 
-  start-count : length (bootOps g start) ≡ 1 + U
+  begun-count : length (bootOps g begun) ≡ 1 + U
   unfolding stateUnits
-  start-count = ap length start-wants ∙ renew-count (g .es) (g .ws) S (magic Boot)
+  begun-count = ap length begun-wants ∙ renew-count (g .es) (g .ws) S (magic Boot)
 
   -- a boot from there, cut after k units, and whole
-  start-cut : (k : ℕ) → k ≤ U → after k (bootOps g start) start ≡ confirmedPart g k f
+  begun-cut : (k : ℕ) → k ≤ U → after k (bootOps g begun) begun ≡ confirmedPart g k f
   unfolding confirmedPart closed stateUnits
-  start-cut k h =
-      ap (λ (os : List Op). after k os start) start-wants
+  begun-cut k h =
+      ap (λ (os : List Op). after k os begun) begun-wants
       ∙ renew-part (f .active) (f .dfu) (g .es) (g .ws) S (magic Boot) k st₀ h
 
-  start-whole : (k : ℕ) → length (bootOps g start) ≤ k → after k (bootOps g start) start ≡ confirmedWhole g f
+  begun-whole : (k : ℕ) → length (bootOps g begun) ≤ k → after k (bootOps g begun) begun ≡ confirmedWhole g f
   unfolding confirmedWhole closed
-  start-whole k h =
-      after-all k (bootOps g start) start h ∙ ap (λ (os : List Op). applyAll os start) start-wants
+  begun-whole k h =
+      after-all k (bootOps g begun) begun h ∙ ap (λ (os : List Op). applyAll os begun) begun-wants
       ∙ renewed (f .active) (f .dfu) Boot (g .es) (g .ws) S st₀ (z .units) void-size (omega (arith, z .state))
 
   -- ---- units are erased, or the Boot magic is written
@@ -139,10 +139,10 @@ module _ (g : Geometry) (f : Flash) (s : Swapped g f) where
     whole : x ≡ confirmedWhole g f → Midway x
 
   ran-idle : (x : Flash) → Admits g x → readState (g .ws) (x .state) ≡ Boot → (k : ℕ) → ran g k x ≡ x
-  ran-idle x a e k = ran-after g k x a ∙ ap (λ (os : List Op). after k os x) (boot-idle g x e) ∙ after-none k x
+  ran-idle x a e k = ran-after g k x a ∙ ap (λ (os : List Op). after k os x) (wants-none g x e) ∙ after-none k x
 
-  ran-start : (x : Flash) → Admits g x → x ≡ confirmedPart g 0 f → (k : ℕ) → ran g k x ≡ after k (bootOps g start) start
-  ran-start x a e k = ran-after g k x a ∙ ap (λ (y : Flash). after k (bootOps g y) y) (e ∙ part-none)
+  ran-begun : (x : Flash) → Admits g x → x ≡ confirmedPart g 0 f → (k : ℕ) → ran g k x ≡ after k (bootOps g begun) begun
+  ran-begun x a e k = ran-after g k x a ∙ ap (λ (y : Flash). after k (bootOps g y) y) (e ∙ part-none)
 
   reads-at : (x y : Flash) → x ≡ y → readState (g .ws) (x .state) ≡ readState (g .ws) (y .state)
   reads-at x y e = ap (λ (w : Flash). readState (g .ws) (w .state)) e
@@ -151,8 +151,8 @@ module _ (g : Geometry) (f : Flash) (s : Swapped g f) where
   kept x a (part zero most e) k = go (decLe k U)
     where
       go : Dec (k ≤ U) → Midway (ran g k x)
-      go (yes h) = part k h (ran-start x a e k ∙ start-cut k h)
-      go (no h) = whole (ran-start x a e k ∙ start-whole k (omega (arith, start-count, lt-of-not-le h)))
+      go (yes h) = part k h (ran-begun x a e k ∙ begun-cut k h)
+      go (no h) = whole (ran-begun x a e k ∙ begun-whole k (omega (arith, begun-count, lt-of-not-le h)))
   kept x a (part (suc u) most e) k =
       part (suc u) most (ran-idle x a (reads-at x (confirmedPart g (suc u) f) e ∙ part-boot (suc u) (omega arith) most) k ∙ e)
   kept x a (whole e) k = whole (ran-idle x a (reads-at x (confirmedWhole g f) e ∙ whole-boot) k ∙ e)
@@ -173,7 +173,7 @@ module _ (g : Geometry) (f : Flash) (s : Swapped g f) where
   place-dfu x (whole e) = ap (λ (y : Flash). y .dfu) e
 
   place-reads : (x : Flash) → Midway x → readState (g .ws) (x .state) ≡ Revert → ⊥
-  place-reads x (part zero most e) r = no-revert _ (inl (reads-at x start (e ∙ part-none) ∙ start-reads)) r
+  place-reads x (part zero most e) r = no-revert _ (inl (reads-at x begun (e ∙ part-none) ∙ begun-reads)) r
   place-reads x (part (suc u) most e) r =
       no-revert _ (inr (reads-at x (confirmedPart g (suc u) f) e ∙ part-boot (suc u) (omega arith) most)) r
   place-reads x (whole e) r = no-revert _ (inr (reads-at x (confirmedWhole g f) e ∙ whole-boot)) r
@@ -194,35 +194,35 @@ module _ (g : Geometry) (f : Flash) (s : Swapped g f) where
         arith,
         cut-short g j x (o .admits) (c .0),
         ap (λ (y : Flash). length (bootOps g y)) (o .same ∙ part-none),
-        start-count,
+        begun-count,
       ) in
       all-cut js j (ran g j x)
       (record {
         most = h;
-        same = ran-start x (o .admits) (o .same) j ∙ start-cut j h;
+        same = ran-begun x (o .admits) (o .same) j ∙ begun-cut j h;
         admits = admits-ran g j x (o .admits);
       })
       (c .1)
   all-cut (j ∷ js) (suc u) x o c =
       let e = reads-at x (confirmedPart g (suc u) f) (o .same) ∙ part-boot (suc u) (omega arith) (o .most) in
-      absurd (omega (arith, cut-short g j x (o .admits) (c .0), ap length (boot-idle g x e)))
+      absurd (omega (arith, cut-short g j x (o .admits) (c .0), ap length (wants-none g x e)))
 
   -- then one that is not
-  finish : (y : Flash) (j : ℕ) → Admits g y → y ≡ start → length (bootOps g y) ≤ j
+  finish : (y : Flash) (j : ℕ) → Admits g y → y ≡ begun → length (bootOps g y) ≤ j
       → (answer g j y ≡ record { number = 0; state = some Swap; count = 1 + U }) × (ran g j y ≡ confirmedWhole g f)
   finish y j a e long = (
     answer-done g j y a long
-        ∙ ap₂ (λ (r : State) (n : ℕ). record { number = 0; state = some r; count = n }) (reads-at y start e ∙ start-reads)
-        (ap (λ (x : Flash). length (bootOps g x)) e ∙ start-count),
+        ∙ ap₂ (λ (r : State) (n : ℕ). record { number = 0; state = some r; count = n }) (reads-at y begun e ∙ begun-reads)
+        (ap (λ (x : Flash). length (bootOps g x)) e ∙ begun-count),
     ran-after g j y a ∙ ap (λ (x : Flash). after j (bootOps g x) x) e
-        ∙ start-whole j (omega (arith, long, ap (λ (x : Flash). length (bootOps g x)) e)),
+        ∙ begun-whole j (omega (arith, long, ap (λ (x : Flash). length (bootOps g x)) e)),
   )
 
   rest : (y : Flash) (j u : ℕ) → Admits g y → y ≡ confirmedPart g u f → 1 ≤ u → u ≤ U
       → (answer g j y ≡ record { number = 0; state = some Boot; count = 0 }) × (ran g j y ≡ confirmedPart g u f)
   rest y j u a e one most =
       let r : readState (g .ws) (y .state) ≡ Boot = reads-at y (confirmedPart g u f) e ∙ part-boot u one most in
-      let n : length (bootOps g y) ≡ 0 = ap length (boot-idle g y r) in (
+      let n : length (bootOps g y) ≡ 0 = ap length (wants-none g y r) in (
         answer-done g j y a (omega (arith, n))
             ∙ ap₂ (λ (r : State) (n : ℕ). record { number = 0; state = some r; count = n }) r n,
         ran-idle y a r j ∙ e,
@@ -256,16 +256,16 @@ module _ (g : Geometry) (f : Flash) (s : Swapped g f) where
       ap₂ (λ (a b : Bool). pick a [] (pick b (invalidateOp (g .ws) ∷ []) [] ++ renewOps (g .es) (g .ws) S (magic Boot)))
       (ap (λ (st : List ℕ). throughout (magic Boot) (word (g .ws) 0 st)) swapped-is
       ∙ not-booted (g .ws) (z .ws) erased (2 * N) (t - 2 * N) room)
-      (ap (valid (g .ws)) swapped-is ∙ counted (g .ws) (z .ws) (2 * N) (t - 2 * N) room)
+      (ap (valid (g .ws)) swapped-is ∙ marks-valid (g .ws) (z .ws) (2 * N) (t - 2 * N) room)
 
   invalid-is : writtenAt (g .ws) (replicate (g .ws) marked) (f .state) ≡ st₀
   invalid-is =
       ap (writtenAt (g .ws) (replicate (g .ws) marked)) swapped-is ∙ void-written (g .ws) erased (2 * N) (t - 2 * N) ∙ void-is
 
   module _ (c : Call) (table : c .refusal < 7) (ops : c .ops ≡ setMagicOps (g .es) (g .ws) (magic Boot) (f .state)) where
-    mark-cut : (k : ℕ) → CutConfirmation c k → Erased (left c k f) (k - 1)
+    confirm-cut : (k : ℕ) → CutConfirmation c k → Erased (left c k f) (k - 1)
     unfolding closed confirmedPart stateUnits
-    mark-cut k h =
+    confirm-cut k h =
         let d = is-cut c table k (ending c k) (h .cut) in
         let n : length (c .ops) ≡ 2 + U =
         ap length (ops ∙ mark-wants) ∙ omega (arith, renew-count (g .es) (g .ws) S (magic Boot)) in
@@ -282,11 +282,11 @@ module _ (g : Geometry) (f : Flash) (s : Swapped g f) where
           admits = subst (Admits g) (sym leaves) (admits-after g k f (s .admitted) (c .ops));
         }
 
-pub confirming : (g : Geometry) (f : Flash) → Confirming g f
+pub confirmed : (g : Geometry) (f : Flash) → Confirming g f
 unfolding mark updaterCall updaterMark updaterMarkBooted
-confirming g f s c firmware-state k h =
-    confirms g f s (left c k f) (k - 1) (mark-cut g f s c (state-rows (g .es) (g .ws) _) refl k h)
-confirming g f s c (updater z es ws) k h =
+confirmed g f s c firmware-state k h =
+    confirms g f s (left c k f) (k - 1) (confirm-cut g f s c (state-rows (g .es) (g .ws) _) refl k h)
+confirmed g f s c (updater z es ws) k h =
     confirms g f s (left c k f) (k - 1)
-    (mark-cut g f s c (updater-rows z _ _ _ _)
+    (confirm-cut g f s c (updater-rows z _ _ _ _)
     (ap₂ (λ (a b : ℕ). setMagicOps a b (magic Boot) (f .state)) es ws) k h)

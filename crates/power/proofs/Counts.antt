@@ -32,7 +32,7 @@ use Rattle.rules.specs.FirmwareState.{setMagicOps, mark}
 use Rattle.rules.specs.FirmwareUpdater.{room, Piece, piecesFrom, pieces, remembers, piecesOps, pastEnd, badRange, updaterCall, updaterMark, updaterMarkUpdated, updaterMarkDfu, updaterMarkBooted, writeFirmware, prepareUpdate}
 use Rattle.rules.specs.Power.{stateUnits, stepCost, dearerCost}
 use Rattle.way.proofs.Costs.{step-count}
-use Rattle.way.proofs.Tables.{swap-count, revert-count, Row, swap-row, revert-row}
+use Rattle.way.proofs.Tables.{swap-count, revert-count, StepRow, swap-row, revert-row}
 use Rattle.way.proofs.Finish.{renew-count, finish-count}
 use Rattle.power.specs.Cuts.{EveryCount}
 
@@ -53,7 +53,7 @@ once-count g c f i = pick-count _ (copyOps g c f) [] (dearerCost g) (go (c .to) 
     go dfu i e = rw e (le-max-left (stepCost g dfu) (stepCost g active))
     go state i e = absurd i
 
-copies-count : (g : Geometry) (cs : List Copy) (i : ℕ) (f : Flash) → Row i cs → length (copiesOps g cs f) ≤ length cs * dearerCost g
+copies-count : (g : Geometry) (cs : List Copy) (i : ℕ) (f : Flash) → StepRow i cs → length (copiesOps g cs f) ≤ length cs * dearerCost g
 unfolding copiesOps
 copies-count g [] i f r = zero-le
 copies-count g (c ∷ cs) i f r =

@@ -10,7 +10,7 @@ use Rattle.rules.specs.Calls.{Report, Call, report, left}
 use Rattle.rules.specs.Boot.{prepareBoot, getState}
 use Rattle.rules.specs.FirmwareState.{mark}
 use Rattle.rules.specs.FirmwareUpdater.{updaterCall, updaterGetState, updaterMark, updaterMarkUpdated, updaterMarkDfu, updaterMarkBooted, readDfu, writeFirmware, prepareUpdate}
-use Rattle.rules.proofs.Endings.{numberOf, Ending, refused, done, cut, ending, is-cut, is-done, report-refused, report-done, report-cut, left-refused, left-admitted, boot-rows, state-rows, updater-rows}
+use Rattle.rules.proofs.Endings.{reportNumber, Ending, refused, done, cut, ending, is-cut, is-done, report-refused, report-done, report-cut, left-refused, left-admitted, boot-rows, state-rows, updater-rows}
 use Rattle.power.specs.Cuts.{Lawful, EveryCall}
 
 module _ (c : Call) (table : c .refusal < 7) where
@@ -26,7 +26,7 @@ module _ (c : Call) (table : c .refusal < 7) where
   lawful =
       record {
         cut = λ k e. is-cut c table k (ending c k) e;
-        cut-if = λ k z l. ap numberOf (report-cut c k z l);
+        cut-if = λ k z l. ap reportNumber (report-cut c k z l);
         cut-leaves = λ k f e.
             let d = is-cut c table k (ending c k) e in
             (left-admitted c k f (d .0), ap (λ (t : Report). t .count) (report-cut c k (d .0) (d .1)));

@@ -25,7 +25,7 @@ use Rattle.rules.specs.Boot.{renewOps}
 use Rattle.rules.specs.FirmwareState.{setMagicOps, mark}
 use Rattle.rules.specs.Power.{magicArea, Fresh}
 use Rattle.rules.proofs.Endings.{Ending, refused, done, cut, ending, left-refused, left-admitted, state-rows, is-done}
-use Rattle.way.proofs.Finish.{closed, invalidated, renewed}
+use Rattle.way.proofs.Finish.{closed, closed-void, renewed}
 use Rattle.power.specs.Power.{restated}
 use Rattle.power.specs.Marking.{Marking, UpdateIsFresh}
 
@@ -42,10 +42,10 @@ state-word es ws ls r =
     (omega (arith, mul-le-mul-right {m = 2} {n = ls / ws} ws two, div-mul-le-self ls ws), even-times ls es (even ls es (e .0)))
 
 -- a call without operations leaves the flash, and every call leaves the state area's length
-idle : (c : Call) (k : ℕ) (f : Flash) → c .ops ≡ [] → Ending c k → left c k f ≡ f
-idle c k f e (refused r) = left-refused c k f r
-idle c k f e (done z l) = left-admitted c k f z ∙ ap (λ (os : List Op). after k os f) e ∙ after-none k f
-idle c k f e (cut z l) = left-admitted c k f z ∙ ap (λ (os : List Op). after k os f) e ∙ after-none k f
+idle-leaves : (c : Call) (k : ℕ) (f : Flash) → c .ops ≡ [] → Ending c k → left c k f ≡ f
+idle-leaves c k f e (refused r) = left-refused c k f r
+idle-leaves c k f e (done z l) = left-admitted c k f z ∙ ap (λ (os : List Op). after k os f) e ∙ after-none k f
+idle-leaves c k f e (cut z l) = left-admitted c k f z ∙ ap (λ (os : List Op). after k os f) e ∙ after-none k f
 
 left-length : (c : Call) (k : ℕ) (f : Flash) → Ending c k → length (left c k f .state) ≡ length (f .state)
 left-length c k f (refused r) = ap (λ (x : Flash). length (x .state)) (left-refused c k f r)
@@ -64,7 +64,7 @@ module _ (s : State) (es ws : ℕ) (f : Flash) where
       ≡ restated (magicArea ws s (length st)) f
   unfolding pick applyAll closed
   marked-state true fit =
-      ap (applyAll (renewOps es ws (length st) (magic s))) (invalidated (f .active) (f .dfu) ws st)
+      ap (applyAll (renewOps es ws (length st) (magic s))) (closed-void (f .active) (f .dfu) ws st)
       ∙ renewed (f .active) (f .dfu) s es ws (length st) (writtenAt ws (replicate ws marked) st) (fit .1)
       (length-written ws (replicate ws marked) st) (fit .0)
   marked-state false fit = renewed (f .active) (f .dfu) s es ws (length st) st (fit .1) refl (fit .0)
@@ -85,7 +85,7 @@ module _ (s : State) (es ws : ℕ) (f : Flash) where
       none e = rw e
 
       same : call .ops ≡ [] → Ending call k → left call k f ≡ f
-      same e x = idle call k f e x
+      same e x = idle-leaves call k f e x
 
       fresh : throughout (magic s) (word ws 0 st) ≡ false → (call .refusal ≡ 0) × (length (call .ops) ≤ k)
           → left call k f ≡ restated (magicArea ws s (length st)) f

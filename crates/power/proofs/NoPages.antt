@@ -18,7 +18,7 @@ use Rattle.rules.proofs.Pages.{mix, mix-none}
 use Rattle.way.proofs.Finish.{closed, finish-count}
 use Rattle.way.proofs.Way.{Way}
 use Rattle.way.proofs.Images.{newDfu}
-use Rattle.way.proofs.Wanted.{boot-reverts}
+use Rattle.way.proofs.Wanted.{wants-revert}
 use Rattle.way.proofs.Reverted.{copies-past}
 use Rattle.power.specs.Power.{Marked, FirstWhole, NoPages}
 use Rattle.power.proofs.Runs.{answer-done}
@@ -59,7 +59,7 @@ module _ (g : Geometry) (f : Flash) (m : Marked g f) (none : pageCount g f ≡ 0
   unfolding stateUnits
   count =
       ap length
-      (boot-reverts g (pageCount g f) (stateBytes g f) 0 f (start-reads g f m) (omega (arith, none))
+      (wants-revert g (pageCount g f) (stateBytes g f) 0 f (start-reads g f m) (omega (arith, none))
       ∙ ap (λ (os : List Op). os ++ finishOps g f) (copies-past g f (pageCount g f) 0 (2 * pageCount g f) (omega (arith, none))))
       ∙ finish-count g f
 

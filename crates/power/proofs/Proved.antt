@@ -19,7 +19,7 @@ use Rattle.way.proofs.Images.{newDfu, mix-reverted}
 use Rattle.way.proofs.Sized.{Sized, sized}
 use Rattle.power.specs.Power.{Ready, FirstWhole, Power, EnoughWords}
 use Rattle.power.proofs.Swaps.{swaps}
-use Rattle.power.proofs.Reverts.{Turns, turned, rested, same-state, turns-back}
+use Rattle.power.proofs.Reverts.{Turns, turned, rested, swapped-size, turns-back}
 use Rattle.power.proofs.SwapBounds.{swap-soon, swap-gains, swap-stays, swap-never}
 use Rattle.power.proofs.RevertBounds.{revert-soon, revert-sooner, back-gains, back-stays, back-never}
 
@@ -33,11 +33,11 @@ abbrev pub revertedDfu : Geometry → Flash → List ℕ
 revertedDfu g f = withPage (page g) (pageCount g f) (pageAt (page g) (pageCount g f - 1) (f .active)) (f .dfu)
 
 module _ (g : Geometry) (f : Flash) (r : Ready g f) where
-  sizes : Sized g f (words (g .ws) (length (f .state)) - 2)
-  sizes = sized g f (r .marked .admitted)
+  s : Sized g f (words (g .ws) (length (f .state)) - 2)
+  s = sized g f (r .marked .admitted)
 
   end : mix (page g) (pageCount g f) (f .dfu) (newDfu (page g) (f .active) (f .dfu)) ≡ revertedDfu g f
-  end = mix-reverted (sizes .paged) (r .some-page)
+  end = mix-reverted (s .paged) (r .some-page)
 
   pub turns : (ks : List ℕ) (k : ℕ) → FirstWhole g ks k (swapTable g f)
       → Turns g ks k (swapTable g f) (f .active) (revertedDfu g f) (length (f .state))
@@ -47,8 +47,8 @@ module _ (g : Geometry) (f : Flash) (r : Ready g f) where
   -- the marks fill the state area
   marks-size : length (revertMarks (g .ws) (pageCount g f) (length (f .state))) ≡ length (f .state)
   marks-size =
-      subst (λ (n : ℕ). length (revertMarks (g .ws) (pageCount g f) n) ≡ n) (sym (sizes .state))
-      (reverted-size (g .ws) (pageCount g f) (words (g .ws) (length (f .state)) - 2) (omega (arith, sizes .room)))
+      subst (λ (n : ℕ). length (revertMarks (g .ws) (pageCount g f) n) ≡ n) (sym (s .state))
+      (reverted-size (g .ws) (pageCount g f) (words (g .ws) (length (f .state)) - 2) (omega (arith, s .room)))
 
   pub power : Power g f
   unfolding reverted revertedPart revertedErased revertImages stateUnits closed
@@ -57,12 +57,12 @@ module _ (g : Geometry) (f : Flash) (r : Ready g f) where
         swaps = swaps g f (r .marked) (r .some-page);
         reverts = λ ks k w o.
             turned g ks k (swapTable g f) (f .active) (revertedDfu g f) (length (f .state)) _
-            (same-state g f (r .marked) (revertedDfu g f) end) (turns ks k w) o;
+            (swapped-size g f (r .marked) (revertedDfu g f) end) (turns ks k w) o;
         rests = λ ks k n w one most o.
             rested g ks k (swapTable g f) (f .active) (revertedDfu g f) (length (f .state)) _ (turns ks k w) n one most o;
         erased-whole =
             ap (closed (f .active) (revertedDfu g f))
-            (ap (λ (n : ℕ). blank n (revertMarks (g .ws) (pageCount g f) (length (f .state)))) (sizes .units)
+            (ap (λ (n : ℕ). blank n (revertMarks (g .ws) (pageCount g f) (length (f .state)))) (s .units)
             ∙ blank-all (length (f .state)) (revertMarks (g .ws) (pageCount g f) (length (f .state))) marks-size);
         swap-soon = swap-soon g f (r .marked) (r .some-page);
         revert-soon = revert-soon g f (r .marked) (revertedDfu g f) end;

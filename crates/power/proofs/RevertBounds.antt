@@ -17,11 +17,11 @@ use Rattle.rules.specs.Power.{swapTable, stateUnits, stepCost, dearerCost, next
 use Rattle.rules.proofs.Pages.{mix}
 use Rattle.way.proofs.Way.{OnWay, Kept}
 use Rattle.way.proofs.Tables.{revert-count}
-use Rattle.way.proofs.Reverted.{copying, revert-kept, revert-last, revert-gains, revert-stays, revert-stay, revert-at, Course, Turning}
+use Rattle.way.proofs.Reverted.{copying, revert-kept, last-most, revert-gains, revert-stays, revert-stay, revert-at, Course, Turning}
 use Rattle.way.proofs.Costs.{even-cost}
 use Rattle.power.specs.Power.{Marked, ran, Cut, runs, AllCut, AllBelow, AllAtLeast}
 use Rattle.power.proofs.Runs.{ran-after, cut-short, dearer, KeptAll, runs-left, runs-stuck}
-use Rattle.power.proofs.Start.{stateBytes, swappedDfu, start-sized, room}
+use Rattle.power.proofs.Start.{stateBytes, swappedDfu, start-sized, markRoom}
 use Rattle.power.proofs.Reverts.{stepsBack, revertEnd, course, from-table, admits-swapped, back-left}
 
 module _ (g : Geometry) (f : Flash) (m : Marked g f) (R : List ℕ)
@@ -32,7 +32,7 @@ module _ (g : Geometry) (f : Flash) (m : Marked g f) (R : List ℕ)
   abbrev S : ℕ
   S = stateBytes g f
 
-  abbrev course-back : Course g N (room g f) (f .active) R (swapTable g f)
+  abbrev course-back : Course g N (markRoom g f) (f .active) R (swapTable g f)
   course-back = course g f m R same
 
   abbrev Back : Flash → ℕ → Type 0
@@ -58,7 +58,7 @@ module _ (g : Geometry) (f : Flash) (m : Marked g f) (R : List ℕ)
       }
     where
       go : (l : ℕ) → l < on .0 → dearerCost g ≤ k → Dec (on .0 ≤ 1) → l - 1 < was
-      go l less x (yes e) = absurd (omega (arith, revert-last course-back now (on .0) (on .1) e))
+      go l less x (yes e) = absurd (omega (arith, last-most course-back now (on .0) (on .1) e))
       go l less x (no e) = omega (arith, lt-of-not-le e, on .2)
 
   nearer-left : 2 + S / g .es ≤ dearerCost g → (ks : List ℕ) → AllCut g ks (swapTable g f)
@@ -73,23 +73,23 @@ module _ (g : Geometry) (f : Flash) (m : Marked g f) (R : List ℕ)
     abbrev now : Flash
     now = runs g ks (swapTable g f)
 
-    left : KeptAll g Back now ks (dearerCost g) (suc (stepsBack g f))
-    left = back-left g f m R same ks cuts
+    l : KeptAll g Back now ks (dearerCost g) (suc (stepsBack g f))
+    l = back-left g f m R same ks cuts
 
     short : k < length (bootOps g now)
-    short = cut-short g k now (left .admits) c
+    short = cut-short g k now (l .admits) c
 
     pub back-gains : nextCost g now ≤ k → readState (g .ws) (ran g k now .state) ≡ Swap
         → progress (g .ws) (now .state) < progress (g .ws) (ran g k now .state)
     back-gains =
         subst (λ (x : Flash). nextCost g now ≤ k → readState (g .ws) (x .state) ≡ Swap
-        → progress (g .ws) (now .state) < progress (g .ws) (x .state)) (sym (ran-after g k now (left .admits)))
-        (revert-gains course-back now (left .rest) (left .inv) k short few)
+        → progress (g .ws) (now .state) < progress (g .ws) (x .state)) (sym (ran-after g k now (l .admits)))
+        (revert-gains course-back now (l .rest) (l .inv) k short few)
 
     pub back-stays : k < nextCost g now → progress (g .ws) (ran g k now .state) ≡ progress (g .ws) (now .state)
     back-stays less =
-        ap (λ (x : Flash). progress (g .ws) (x .state)) (ran-after g k now (left .admits))
-        ∙ revert-stays course-back now (left .rest) (left .inv) k short few less
+        ap (λ (x : Flash). progress (g .ws) (x .state)) (ran-after g k now (l .admits))
+        ∙ revert-stays course-back now (l .rest) (l .inv) k short few less
 
   pub back-never : 1 ≤ N → (ks : List ℕ) → AllBelow (stepCost g dfu) ks
       → AllCut g ks (swapTable g f) × (progress (g .ws) (runs g ks (swapTable g f) .state) ≡ 2 * N)

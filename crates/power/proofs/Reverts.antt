@@ -21,13 +21,13 @@ use Rattle.rules.proofs.Pages.{mix, mix-none}
 use Rattle.rules.proofs.MarkedArea.{reverted-marks}
 use Rattle.way.proofs.Finish.{closed}
 use Rattle.way.proofs.Way.{Way, OnWay, here, on-stage, close-refl}
-use Rattle.way.proofs.Tables.{Images, table, revert-way}
+use Rattle.way.proofs.Tables.{Images, stageTable, revert-way}
 use Rattle.way.proofs.Images.{newDfu, mix-all-active}
 use Rattle.way.proofs.Sized.{Sized}
-use Rattle.way.proofs.Reverted.{Course, closing, part, copying, Turning, LastCut, revert-kept, revert-place, revert-ends, gone-boot, gone-idle}
+use Rattle.way.proofs.Reverted.{Course, closing, erasedPart, copying, Turning, LastCut, revert-kept, revert-place, revert-done, gone-boot, gone-idle}
 use Rattle.power.specs.Power.{Marked, ran, Cut, runs, AllCut, FirstWhole, Short, InErase, Ends, Rests}
 use Rattle.power.proofs.Runs.{Admits, ran-after, admits-ran, cut-short, whole-long, dearer, KeptAll, runs-left, ends-at, rests-at}
-use Rattle.power.proofs.Start.{room, stateBytes, swappedActive, swappedDfu, tableAt, start-sized, start-images, end-table}
+use Rattle.power.proofs.Start.{markRoom, stateBytes, swappedActive, swappedDfu, tableAt, start-sized, start-images, end-table}
 
 -- the ways a revert ends, with the images A and R and n bytes of state that hold st when its erase begins: by the place of the last cut
 abbrev pub Turns : Geometry → List ℕ → ℕ → Flash → List ℕ → List ℕ → ℕ → List ℕ → Type 0
@@ -61,7 +61,7 @@ abbrev pub stepsBack : Geometry → Flash → ℕ
 stepsBack g f = length (revertFrom (pageCount g f) 0 (2 * pageCount g f))
 
 abbrev pub revertEnd : Geometry → Flash → List ℕ → Flash
-revertEnd g f R = closing g (f .active) R (room g f) (4 * pageCount g f) erased
+revertEnd g f R = closing g (f .active) R (markRoom g f) (4 * pageCount g f) erased
 
 -- back from the swap table
 module _ (g : Geometry) (f : Flash) (m : Marked g f) (R : List ℕ)
@@ -72,23 +72,23 @@ module _ (g : Geometry) (f : Flash) (m : Marked g f) (R : List ℕ)
   abbrev S : ℕ
   S = stateBytes g f
 
-  s : Sized g f (room g f)
+  s : Sized g f (markRoom g f)
   s = start-sized g f m
 
   im : Images (page g) N (f .active) (f .dfu) (swappedActive f) (swappedDfu g f)
   im = start-images g f m
 
   back : tableAt g f N N (4 * N) ≡ revertEnd g f R
-  unfolding table closing closed
+  unfolding stageTable closing closed
   back = flash-path (mix-all-active (s .paged) (swappedActive f) (im .active-same)) same refl
 
   way-back : Way g N S (2 * N) (swapTable g f) (revertFrom N 0 (2 * N)) (revertEnd g f R)
   way-back =
       subst₂ (λ (x y : Flash). Way g N S (2 * N) x (revertFrom N 0 (2 * N)) y) (end-table g f m 0 (mix-none (page g) (f .dfu) (swappedDfu g f))) back
-      (revert-way g N (room g f) (f .active) (f .dfu) (swappedActive f) (swappedDfu g f) (s .ws) im N 0 (2 * N) (4 * N) (mul-mod-right 2 N) (omega arith) (omega arith)
+      (revert-way g N (markRoom g f) (f .active) (f .dfu) (swappedActive f) (swappedDfu g f) (s .ws) im N 0 (2 * N) (4 * N) (mul-mod-right 2 N) (omega arith) (omega arith)
       (omega (arith, s .room)))
 
-  pub course : Course g N (room g f) (f .active) R (swapTable g f)
+  pub course : Course g N (markRoom g f) (f .active) R (swapTable g f)
   course =
       record {
         whole = s .whole;
@@ -105,12 +105,12 @@ module _ (g : Geometry) (f : Flash) (m : Marked g f) (R : List ℕ)
   pub from-table : OnWay g N S (revertEnd g f R) (swapTable g f) (2 * N) (revertFrom N 0 (2 * N)) (stepsBack g f)
   from-table = here (swapTable g f) way-back (close-refl g (revertFrom N 0 (2 * N)) (swapTable g f))
 
-  pub same-state : length (swapTable g f .state) ≡ length (f .state)
-  same-state = on-stage g N S (revertEnd g f R) (swapTable g f) from-table .reads .sized ∙ sym (s .state)
+  pub swapped-size : length (swapTable g f .state) ≡ length (f .state)
+  swapped-size = on-stage g N S (revertEnd g f R) (swapTable g f) from-table .reads .sized ∙ sym (s .state)
 
   pub admits-swapped : Admits g (swapTable g f)
   unfolding swapTable newDfu
-  admits-swapped = rw (im .active-same, im .dfu-same, same-state) (m .admitted)
+  admits-swapped = rw (im .active-same, im .dfu-same, swapped-size) (m .admitted)
 
   abbrev Back : Flash → ℕ → Type 0
   Back = Turning course
@@ -122,11 +122,11 @@ module _ (g : Geometry) (f : Flash) (m : Marked g f) (R : List ℕ)
       ks (swapTable g f) (suc (stepsBack g f)) admits-swapped (copying from-table) cuts
 
   abbrev gone : ℕ → Flash
-  gone = part g (f .active) R (room g f) (4 * N)
+  gone = erasedPart g (f .active) R (markRoom g f) (4 * N)
 
   parts : (j : ℕ) → gone j ≡ closed (f .active) R (blank (j * g .es) (revertMarks (g .ws) N S))
-  unfolding part
-  parts j = ap (λ (l : List ℕ). closed (f .active) R (blank (j * g .es) l)) (reverted-marks (g .ws) N (room g f) (omega (arith, s .room)))
+  unfolding erasedPart
+  parts j = ap (λ (l : List ℕ). closed (f .active) R (blank (j * g .es) l)) (reverted-marks (g .ws) N (markRoom g f) (omega (arith, s .room)))
 
   -- a run that is cut did not start with units erased
   not-erased : (k : ℕ) (x : Flash) → Admits g x → Cut g k x → (j : ℕ) → 1 ≤ j → j ≤ S / g .es → x ≡ gone j → ⊥
@@ -193,5 +193,5 @@ module _ (g : Geometry) (f : Flash) (m : Marked g f) (R : List ℕ)
           inl (
             p .0,
             ends-at g ks k (swapTable g f) (l .admits) long Swap _ (p .1)
-                (revert-ends course (runs g ks (swapTable g f)) (l .rest) (l .inv) (p .1) k long),
+                (revert-done course (runs g ks (swapTable g f)) (l .rest) (l .inv) (p .1) k long),
           )

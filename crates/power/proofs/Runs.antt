@@ -1,6 +1,6 @@
 -- What a run of prepare_boot is over its list of operations, cut and not cut; and any number of cut runs: an invariant that one cut
 -- run keeps, with so much left to do, is kept by all of them, and what is left falls by one a run if each budget pays the price.
--- Serves `power`, `settles` and `confirming`. Assumes nothing.
+-- Serves `power`, `settles` and `confirmed`. Assumes nothing.
 use mathlib.Core.Path.{_≡_, sym, subst, ap, ap₂, _∙_}
 use mathlib.Core.Option.{some}
 use mathlib.Core.List.{List, [], _∷_}
@@ -19,7 +19,7 @@ use Rattle.rules.specs.StateArea.{readState}
 use Rattle.rules.specs.Boot.{bootOps, prepareBoot}
 use Rattle.rules.specs.Power.{dearerCost, nextCost}
 use Rattle.rules.specs.Calls.{Report}
-use Rattle.rules.proofs.Endings.{report-done, left-admitted, boot-rows, numberOf, ending, is-cut, report-cut}
+use Rattle.rules.proofs.Endings.{report-done, left-admitted, boot-rows, reportNumber, ending, is-cut, report-cut}
 use Rattle.way.proofs.Costs.{next-dearer}
 use Rattle.way.proofs.Way.{Kept}
 use Rattle.power.specs.Power.{answer, ran, Cut, runs, AllCut, AllAtLeast, AllBelow, Ends, Rests}
@@ -48,7 +48,7 @@ module _ (g : Geometry) (k : ℕ) (f : Flash) (a : Admits g f) where
 
   pub short-cut : k < length (bootOps g f) → Cut g k f
   unfolding Cut answer prepareBoot
-  short-cut h = ap numberOf (report-cut (prepareBoot g f) k a h)
+  short-cut h = ap reportNumber (report-cut (prepareBoot g f) k a h)
 
   pub whole-long : (Cut g k f → ⊥) → length (bootOps g f) ≤ k
   whole-long n = go (decLe (length (bootOps g f)) k)

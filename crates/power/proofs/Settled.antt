@@ -35,8 +35,8 @@ use Rattle.way.proofs.Fill.{fill-placed}
 use Rattle.way.proofs.Steps.{Whole, whole-page}
 use Rattle.way.proofs.Finish.{closed, closeOps, finish-close, renewed, finished}
 use Rattle.way.proofs.Way.{Reads, once-skip, once-do}
-use Rattle.way.proofs.Tables.{swap-count, Row, swap-row}
-use Rattle.way.proofs.Wanted.{boot-idle, revert-idle, boot-confirms, boot-swaps, boot-reverts}
+use Rattle.way.proofs.Tables.{swap-count, StepRow, swap-row}
+use Rattle.way.proofs.Wanted.{wants-none, wants-none-reverted, wants-renewal, wants-swap, wants-revert}
 use Rattle.power.specs.Power.{answer, ran, Cut, runs}
 use Rattle.power.specs.Settles.{Quiet, Settles}
 use Rattle.power.proofs.Runs.{Admits, ran-after, admits-ran, whole-long, answer-done}
@@ -49,21 +49,21 @@ step-state : (g : Geometry) → Whole g → (c : Copy) (f : Flash) → Image (c 
 unfolding copyOps applyAll apply markOp change withMark
 step-state g whole c f i =
     ap (λ (x : Flash). x .state)
-    (apply-append fills marks f
-    ∙ ap (applyAll marks)
+    (apply-append fills markOps f
+    ∙ ap (applyAll markOps)
     (ap (applyAll fills) (sym (placed-same (c .to) f))
     ∙ fill-placed (unitOf g (c .to)) (page g) (g .b) (c .target * page g) (c .source * page g) (c .to) (sourceOf (c .to) f)
     (areaOf (c .to) f) f (whole .units (c .to) i)))
-    ∙ ap (writtenAt ((2 + c .mark) * g .ws) (replicate (g .ws) marked)) (state-placed (c .to) left f i)
+    ∙ ap (writtenAt ((2 + c .mark) * g .ws) (replicate (g .ws) marked)) (state-placed (c .to) page-left f i)
   where
     fills : List Op
     fills = fillOps (unitOf g (c .to)) (page g) (g .b) (c .target * page g) (c .source * page g) (sourceOf (c .to) f) (c .to)
 
-    marks : List Op
-    marks = markOp (g .ws) (c .mark) ∷ []
+    markOps : List Op
+    markOps = markOp (g .ws) (c .mark) ∷ []
 
-    left : List ℕ
-    left =
+    page-left : List ℕ
+    page-left =
         chunked (page g / g .b) (c .target * page g) (c .source * page g) (g .b) (sourceOf (c .to) f)
         (erasedAt (c .target * page g) (page g) (areaOf (c .to) f))
 
@@ -92,17 +92,17 @@ once-past g whole c f i h m = go (eq-or-lt-of-le h)
         let d : applyAll (onceOps g c f) f .state ≡ f .state = ap (λ (os : List Op). applyAll os f .state) (once-skip g c f l) in
         record { same = ap (readState (g .ws)) d; size = ap length d; past = rw d l }
 
-row-past : (g : Geometry) → Whole g → (cs : List Copy) (i : ℕ) (f : Flash) → Row i cs → i ≤ progress (g .ws) (f .state)
+row-passed : (g : Geometry) → Whole g → (cs : List Copy) (i : ℕ) (f : Flash) → StepRow i cs → i ≤ progress (g .ws) (f .state)
     → i + length cs ≤ mostMarks (g .ws) (f .state)
     → Past (g .ws) (f .state) (applyAll (copiesOps g cs f) f .state) (i + length cs)
 unfolding copiesOps applyAll mostMarks
-row-past g whole [] i f r h m = record { same = refl; size = refl; past = omega arith }
-row-past g whole (c ∷ cs) i f r h m =
+row-passed g whole [] i f r h m = record { same = refl; size = refl; past = omega arith }
+row-passed g whole (c ∷ cs) i f r h m =
     let e : c .mark ≡ i = r .1 in
     let o = once-past g whole c f (r .0) (omega arith) (omega arith) in
     let next : Flash = applyAll (onceOps g c f) f in
     let z : words (g .ws) (length (next .state)) ≡ words (g .ws) (length (f .state)) = ap (words (g .ws)) (o .size) in
-    let q = row-past g whole cs (suc i) next (r .2) (omega (arith, o .past)) (omega arith) in
+    let q = row-passed g whole cs (suc i) next (r .2) (omega (arith, o .past)) (omega arith) in
     let d : applyAll (copiesOps g (c ∷ cs) f) f .state ≡ applyAll (copiesOps g cs next) next .state =
     ap (λ (x : Flash). x .state) (apply-append (onceOps g c f) (copiesOps g cs next) f) in
     record {
@@ -148,7 +148,7 @@ module _ (g : Geometry) (f : Flash) (a : Admits g f) where
   unfolding closed
   confirm-through swap c =
       let n : ℕ = length (f .state) in
-      ap (λ (os : List Op). readState (g .ws) (applyAll os f .state)) (boot-confirms g f swap c)
+      ap (λ (os : List Op). readState (g .ws) (applyAll os f .state)) (wants-renewal g f swap c)
       ∙ ap (λ (y : Flash). readState (g .ws) (y .state))
       (renewed (f .active) (f .dfu) Boot (g .es) (g .ws) n (f .state) whole-units refl some-area)
       ∙ area-reads Boot (g .ws) n (boot-reads (g .ws) some-word)
@@ -162,9 +162,9 @@ module _ (g : Geometry) (f : Flash) (a : Admits g f) where
     unfolding bootWords mostMarks
     swap-through h =
         let n : length (swapFrom N 0) ≡ 2 * N = swap-count N 0 in
-        let p = row-past g (whole-page ad) (swapFrom N 0) 0 f (swap-row N 0) zero-le (omega (arith, enough)) in
+        let p = row-passed g (whole-page ad) (swapFrom N 0) 0 f (swap-row N 0) zero-le (omega (arith, enough)) in
         let d : bootOps g f ≡ copiesOps g (swapFrom N 0) f =
-        boot-swaps g N (length (f .state)) (progress (g .ws) (f .state)) f reads h in
+        wants-swap g N (length (f .state)) (progress (g .ws) (f .state)) f reads h in
         subst (λ (os : List Op). Past (g .ws) (f .state) (applyAll os f .state) (2 * N)) (sym d)
         (record { same = p .same; size = p .size; past = omega (arith, p .past) })
 
@@ -176,7 +176,7 @@ module _ (g : Geometry) (f : Flash) (a : Admits g f) where
         let n : ℕ = length (f .state) in
         let x : Flash = applyAll copies f in
         let d : bootOps g f ≡ copies ++ closeOps g n =
-        boot-reverts g N n (progress (g .ws) (f .state)) f reads h
+        wants-revert g N n (progress (g .ws) (f .state)) f reads h
         ∙ ap (λ (os : List Op). copies ++ os) (finish-close g f n refl) in
         ap (λ (os : List Op). readState (g .ws) (applyAll os f .state)) d
         ∙ ap (λ (y : Flash). readState (g .ws) (y .state))
@@ -226,7 +226,7 @@ module _ (g : Geometry) (f : Flash) (a : Admits g f) (swap : readState (g .ws) (
 
   settles-confirmed : confirming (g .ws) (pageCount g f) (f .state) ≡ true → Quiet g (ran g k f)
   settles-confirmed c =
-      quiet g (ran g k f) (admits-ran g k f a) (boot-idle g (ran g k f) (through-reads ∙ confirm-through g f a swap c))
+      quiet g (ran g k f) (admits-ran g k f a) (wants-none g (ran g k f) (through-reads ∙ confirm-through g f a swap c))
 
   settles-once : 2 * pageCount g f ≤ progress (g .ws) (f .state) → Quiet g (ran g k f)
   settles-once h = go (confirming (g .ws) (pageCount g f) (f .state)) refl
@@ -235,7 +235,7 @@ module _ (g : Geometry) (f : Flash) (a : Admits g f) (swap : readState (g .ws) (
       go true c = settles-confirmed c
       go false c =
           quiet g (ran g k f) (admits-ran g k f a)
-          (revert-idle g (ran g k f) (through-reads ∙ revert-through g f a swap c h))
+          (wants-none-reverted g (ran g k f) (through-reads ∙ revert-through g f a swap c h))
 
 -- and where a swap is due, two are
 settles-twice : (g : Geometry) (f : Flash) → Admits g f → readState (g .ws) (f .state) ≡ Swap

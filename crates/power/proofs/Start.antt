@@ -15,17 +15,17 @@ use Rattle.rules.specs.Power.{magicArea, Fresh, swapMarks, swapTable}
 use Rattle.rules.proofs.Pages.{mix, mix-none}
 use Rattle.rules.proofs.MarkedArea.{fresh-marks, swapped-marks}
 use Rattle.way.proofs.Way.{Reads, Way}
-use Rattle.way.proofs.Tables.{Images, table, table-reads, swap-way}
+use Rattle.way.proofs.Tables.{Images, stageTable, table-reads, swap-way}
 use Rattle.way.proofs.Images.{newDfu, images, mix-all-active, mix-all-dfu, mix-first}
 use Rattle.way.proofs.Sized.{Sized, sized}
 use Rattle.power.specs.Power.{Marked}
 
 -- the marks that the state area has room for, its bytes, and active after the swap
-abbrev pub room : Geometry → Flash → ℕ
-room g f = words (g .ws) (length (f .state)) - 2
+abbrev pub markRoom : Geometry → Flash → ℕ
+markRoom g f = words (g .ws) (length (f .state)) - 2
 
 abbrev pub stateBytes : Geometry → Flash → ℕ
-stateBytes g f = (2 + room g f) * g .ws
+stateBytes g f = (2 + markRoom g f) * g .ws
 
 abbrev pub swappedActive : Flash → List ℕ
 swappedActive f = take (length (f .active)) (f .dfu)
@@ -35,13 +35,13 @@ swappedDfu g f = newDfu (page g) (f .active) (f .dfu)
 
 -- the table with c old pages of active, d of DFU and n marks done
 abbrev pub tableAt : Geometry → Flash → ℕ → ℕ → ℕ → Flash
-tableAt g f = table g (f .active) (f .dfu) (swappedActive f) (swappedDfu g f) (room g f)
+tableAt g f = stageTable g (f .active) (f .dfu) (swappedActive f) (swappedDfu g f) (markRoom g f)
 
 module _ (g : Geometry) (f : Flash) (m : Marked g f) where
   abbrev N : ℕ
   N = pageCount g f
 
-  pub start-sized : Sized g f (room g f)
+  pub start-sized : Sized g f (markRoom g f)
   start-sized = sized g f (m .admitted)
 
   pub start-images : Images (page g) N (f .active) (f .dfu) (swappedActive f) (swappedDfu g f)
@@ -49,28 +49,28 @@ module _ (g : Geometry) (f : Flash) (m : Marked g f) where
 
   -- the first table is the flash itself, and the swap's last one the swap table
   start-table : tableAt g f N (suc N) 0 ≡ f
-  unfolding table Fresh
+  unfolding stageTable Fresh
   start-table =
       flash-path (mix-all-active (start-sized .paged) (swappedActive f) (start-images .active-same))
       (mix-all-dfu (start-sized .paged))
-      (sym (fresh-marks (g .ws) (room g f)) ∙ ap (magicArea (g .ws) Swap) (sym (start-sized .state)) ∙ sym (m .fresh))
+      (sym (fresh-marks (g .ws) (markRoom g f)) ∙ ap (magicArea (g .ws) Swap) (sym (start-sized .state)) ∙ sym (m .fresh))
 
   pub start-reads : Reads g N (stateBytes g f) 0 f
   start-reads =
       subst (Reads g N (stateBytes g f) 0) start-table
-      (table-reads g N (room g f) (f .active) (f .dfu) (swappedActive f) (swappedDfu g f) (start-sized .ws) start-images N (suc N) 0
+      (table-reads g N (markRoom g f) (f .active) (f .dfu) (swappedActive f) (swappedDfu g f) (start-sized .ws) start-images N (suc N) 0
       (omega arith) (omega (arith, start-sized .room)))
 
   pub end-table : (d : ℕ) → mix (page g) d (f .dfu) (swappedDfu g f) ≡ swappedDfu g f → tableAt g f 0 d (2 * N) ≡ swapTable g f
-  unfolding table swapTable newDfu
+  unfolding stageTable swapTable newDfu
   end-table d e =
       flash-path (mix-none (page g) (f .active) (swappedActive f)) e
-      (swapped-marks (g .ws) N (room g f) (omega (arith, start-sized .room))
+      (swapped-marks (g .ws) N (markRoom g f) (omega (arith, start-sized .room))
       ∙ ap (swapMarks (g .ws) N) (sym (start-sized .state)))
 
   pub way-there : Way g N (stateBytes g f) 0 f (swapFrom N 0) (swapTable g f)
   way-there =
       subst₂ (λ (x y : Flash). Way g N (stateBytes g f) 0 x (swapFrom N 0) y) start-table
       (end-table 1 (mix-first (start-sized .paged)))
-      (swap-way g N (room g f) (f .active) (f .dfu) (swappedActive f) (swappedDfu g f) (start-sized .ws) start-images N 0 (2 * N)
+      (swap-way g N (markRoom g f) (f .active) (f .dfu) (swappedActive f) (swappedDfu g f) (start-sized .ws) start-images N 0 (2 * N)
       (omega arith) (omega arith) (omega arith) (omega (arith, start-sized .room)))

@@ -10,7 +10,7 @@ use Rattle.rules.specs.Steps.{swapFrom, pageCount}
 use Rattle.rules.specs.Power.{swapTable, dearerCost}
 use Rattle.way.proofs.Way.{here, close-refl}
 use Rattle.way.proofs.Tables.{swap-count}
-use Rattle.way.proofs.Swapped.{Swapping, swap-kept, swap-ends, swap-reads}
+use Rattle.way.proofs.Swapped.{Swapping, swap-kept, swap-done, swap-reads}
 use Rattle.power.specs.Power.{Marked, runs, AllCut, FirstWhole, Ends}
 use Rattle.power.proofs.Runs.{whole-long, dearer, KeptAll, runs-left, ends-at}
 use Rattle.power.proofs.Start.{stateBytes, start-sized, way-there}
@@ -38,4 +38,4 @@ module _ (g : Geometry) (f : Flash) (m : Marked g f) where
       let long = whole-long g k (runs g ks f) (l .admits) (w .whole) in
       ends-at g ks k f (l .admits) long Swap (swapTable g f)
       (swap-reads g (start-sized g f m .whole) N (stateBytes g f) (swapTable g f) (runs g ks f) (l .rest) (l .inv))
-      (swap-ends g (start-sized g f m .whole) N (stateBytes g f) (swapTable g f) (runs g ks f) (l .rest) (l .inv) k long)
+      (swap-done g (start-sized g f m .whole) N (stateBytes g f) (swapTable g f) (runs g ks f) (l .rest) (l .inv) k long)

@@ -56,19 +56,19 @@ ending c k = go (decLe 1 (c .refusal)) (decLe (length (c .ops)) k)
 
 -- ---- the laws
 
-abbrev pub numberOf : Report → ℕ
-numberOf t = t .number
+abbrev pub reportNumber : Report → ℕ
+reportNumber t = t .number
 
 module _ (c : Call) (table : c .refusal < 7) where
   pub is-cut : (k : ℕ) → Ending c k → report c k .number ≡ 7 → (c .refusal ≡ 0) × (k < length (c .ops))
-  is-cut k (refused r) e = absurd (omega (arith, ap numberOf (report-refused c k r)))
-  is-cut k (done z l) e = absurd (omega (arith, ap numberOf (report-done c k z l)))
+  is-cut k (refused r) e = absurd (omega (arith, ap reportNumber (report-refused c k r)))
+  is-cut k (done z l) e = absurd (omega (arith, ap reportNumber (report-done c k z l)))
   is-cut k (cut z l) e = (z, l)
 
   pub is-done : (k : ℕ) → Ending c k → report c k .number ≡ 0 → (c .refusal ≡ 0) × (length (c .ops) ≤ k)
-  is-done k (refused r) e = absurd (omega (arith, ap numberOf (report-refused c k r)))
+  is-done k (refused r) e = absurd (omega (arith, ap reportNumber (report-refused c k r)))
   is-done k (done z l) e = (z, l)
-  is-done k (cut z l) e = absurd (omega (arith, ap numberOf (report-cut c k z l)))
+  is-done k (cut z l) e = absurd (omega (arith, ap reportNumber (report-cut c k z l)))
 
 -- ---- the calls of the crate: the table of each has no row 7
 

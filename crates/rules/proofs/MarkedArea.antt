@@ -26,14 +26,14 @@ use Rattle.rules.proofs.Spread.{spread, length-spread, spread-append, s
 
 -- ---- the state area while a swap or a revert runs: the magic, the validity, n marks done, r words left
 
-unfoldable pub marks : ℕ → ℕ → ℕ → List ℕ
-marks v n r = magic Swap ∷ v ∷ (replicate n marked ++ replicate r erased)
+unfoldable pub markWords : ℕ → ℕ → ℕ → List ℕ
+markWords v n r = magic Swap ∷ v ∷ (replicate n marked ++ replicate r erased)
 
 length-runs : (n r : ℕ) → length (replicate n marked ++ replicate r erased) ≡ n + r
 length-runs n r = simp (length-append, length-replicate)
 
-pub length-marks : (v n r : ℕ) → length (marks v n r) ≡ 2 + (n + r)
-unfolding marks
+pub length-marks : (v n r : ℕ) → length (markWords v n r) ≡ 2 + (n + r)
+unfolding markWords
 length-marks v n r = omega (arith, length-runs n r)
 
 getD-done : (n r k : ℕ) → k < n → getD (replicate n marked ++ replicate r erased) k 0 ≡ marked
@@ -49,73 +49,73 @@ getD-open n r h =
 
 module _ (w : ℕ) (some : 0 < w) (v n r : ℕ) (more : 0 < r) where
   reads : (k : ℕ) → k < n + r
-      → word w (2 + k) (spread w (marks v n r)) ≡ replicate w (getD (replicate n marked ++ replicate r erased) k 0)
-  unfolding marks
+      → word w (2 + k) (spread w (markWords v n r)) ≡ replicate w (getD (replicate n marked ++ replicate r erased) k 0)
+  unfolding markWords
   reads k h =
       let e : 2 + k ≡ suc (suc k) = omega arith in
-      ap (λ (i : ℕ). word w i (spread w (marks v n r))) e
-      ∙ word-spread w (suc (suc k)) (marks v n r) (omega (arith, length-runs n r))
+      ap (λ (i : ℕ). word w i (spread w (markWords v n r))) e
+      ∙ word-spread w (suc (suc k)) (markWords v n r) (omega (arith, length-runs n r))
 
-  mark-done : (k : ℕ) → k < n → markOpen w (spread w (marks v n r)) k ≡ false
+  done-mark : (k : ℕ) → k < n → markOpen w (spread w (markWords v n r)) k ≡ false
   unfolding markOpen
-  mark-done k h = rw (reads k (omega arith), getD-done n r k h) (holds-other w erased marked marked-not-erased)
+  done-mark k h = rw (reads k (omega arith), getD-done n r k h) (holds-other w erased marked marked-not-erased)
 
-  mark-left : markOpen w (spread w (marks v n r)) n ≡ true
+  mark-left : markOpen w (spread w (markWords v n r)) n ≡ true
   unfolding markOpen
   mark-left = rw (reads n (omega arith), getD-open n r more) (holds-same w erased some)
 
-  first-open : (j i : ℕ) → i ≤ n → n ≤ i + j → i + j < n + r → firstOpen w (spread w (marks v n r)) j i ≡ n
+  first-open : (j i : ℕ) → i ≤ n → n ≤ i + j → i + j < n + r → firstOpen w (spread w (markWords v n r)) j i ≡ n
   unfolding firstOpen pick
   first-open zero i lo hi up = omega arith
   first-open (suc j) i lo hi up = go (eq-or-lt-of-le lo) (λ h. first-open j (suc i) h (omega arith) (omega arith))
     where
-      go : (i ≡ n) ⊎ (i < n) → (i < n → firstOpen w (spread w (marks v n r)) j (suc i) ≡ n)
-          → firstOpen w (spread w (marks v n r)) (suc j) i ≡ n
+      go : (i ≡ n) ⊎ (i < n) → (i < n → firstOpen w (spread w (markWords v n r)) j (suc i) ≡ n)
+          → firstOpen w (spread w (markWords v n r)) (suc j) i ≡ n
       go (inl e) f = rw (e, mark-left)
-      go (inr h) f = rw (mark-done i h) (f h)
+      go (inr h) f = rw (done-mark i h) (f h)
 
-  most-marks : mostMarks w (spread w (marks v n r)) ≡ 2 + (n + r) - 3
+  most-marks : mostMarks w (spread w (markWords v n r)) ≡ 2 + (n + r) - 3
   unfolding mostMarks words
   most-marks =
-      ap (λ (k : ℕ). k / w - 3) (length-spread w (marks v n r))
-      ∙ ap (λ (k : ℕ). k - 3) (mul-div-cancel (length (marks v n r)) some ∙ length-marks v n r)
+      ap (λ (k : ℕ). k / w - 3) (length-spread w (markWords v n r))
+      ∙ ap (λ (k : ℕ). k - 3) (mul-div-cancel (length (markWords v n r)) some ∙ length-marks v n r)
 
-  pub reads-swap : readState w (spread w (marks v n r)) ≡ Swap
-  unfolding readState stateOf pick marks
-  reads-swap = rw (word-spread w 0 (marks v n r) (omega (arith, length-marks v n r)), throughout-same w (magic Swap))
+  pub reads-swap : readState w (spread w (markWords v n r)) ≡ Swap
+  unfolding readState stateOf pick markWords
+  reads-swap = rw (word-spread w 0 (markWords v n r) (omega (arith, length-marks v n r)), throughout-same w (magic Swap))
 
   -- the Boot magic is not there yet
-  pub not-booted : throughout (magic Boot) (word w 0 (spread w (marks v n r))) ≡ false
-  unfolding marks
+  pub not-booted : throughout (magic Boot) (word w 0 (spread w (markWords v n r))) ≡ false
+  unfolding markWords
   not-booted =
-      ap (throughout (magic Boot)) (word-spread w 0 (marks v n r) (omega (arith, length-marks v n r)))
+      ap (throughout (magic Boot)) (word-spread w 0 (markWords v n r) (omega (arith, length-marks v n r)))
       ∙ throughout-other w (magic Boot) (magic Swap) some (λ e. boot-no-other .0 (sym e))
 
-  reads-valid : word w 1 (spread w (marks v n r)) ≡ replicate w v
-  unfolding marks
-  reads-valid = word-spread w 1 (marks v n r) (omega (arith, length-marks v n r))
+  reads-valid : word w 1 (spread w (markWords v n r)) ≡ replicate w v
+  unfolding markWords
+  reads-valid = word-spread w 1 (markWords v n r) (omega (arith, length-marks v n r))
 
-  pub done-marks : marksDone w (spread w (marks v n r)) ≡ n
+  pub done-marks : marksDone w (spread w (markWords v n r)) ≡ n
   unfolding marksDone
   done-marks = rw most-marks (first-open (2 + (n + r) - 3) 0 (omega arith) (omega arith) (omega arith))
 
 module _ (w : ℕ) (some : 0 < w) (n r : ℕ) (more : 0 < r) where
   -- the validity word erased, and written over
-  pub counted : valid w (spread w (marks erased n r)) ≡ true
+  pub marks-valid : valid w (spread w (markWords erased n r)) ≡ true
   unfolding valid
-  counted = ap (throughout erased) (reads-valid w some erased n r more) ∙ throughout-same w erased
+  marks-valid = ap (throughout erased) (reads-valid w some erased n r more) ∙ throughout-same w erased
 
-  pub void : valid w (spread w (marks marked n r)) ≡ false
+  pub marks-void : valid w (spread w (markWords marked n r)) ≡ false
   unfolding valid
-  void =
+  marks-void =
       ap (throughout erased) (reads-valid w some marked n r more)
       ∙ throughout-other w erased marked some marked-not-erased
 
-  pub progress-marks : progress w (spread w (marks erased n r)) ≡ n
-  progress-marks = progress-valid w (spread w (marks erased n r)) counted ∙ done-marks w some erased n r more
+  pub progress-marks : progress w (spread w (markWords erased n r)) ≡ n
+  progress-marks = progress-valid w (spread w (markWords erased n r)) marks-valid ∙ done-marks w some erased n r more
 
-  pub progress-void : progress w (spread w (marks marked n r)) ≡ 2 + (n + r) - 3
-  progress-void = progress-invalid w (spread w (marks marked n r)) void ∙ most-marks w some marked n r more
+  pub progress-void : progress w (spread w (markWords marked n r)) ≡ 2 + (n + r) - 3
+  progress-void = progress-invalid w (spread w (markWords marked n r)) marks-void ∙ most-marks w some marked n r more
 
 -- a confirmation is pending with a swap's marks and a revert's not all done, and void; not while they count, nor with all done
 module _ (w N : ℕ) (st : List ℕ) where
@@ -142,11 +142,11 @@ replicate-snoc (suc n) x zs = ap (λ (l : List ℕ). x ∷ l) (replicate-snoc n 
 
 -- the next mark written
 pub mark-next : (w v n r : ℕ)
-    → writtenAt ((2 + n) * w) (replicate w marked) (spread w (marks v n (suc r))) ≡ spread w (marks v (suc n) r)
-unfolding marks
+    → writtenAt ((2 + n) * w) (replicate w marked) (spread w (markWords v n (suc r))) ≡ spread w (markWords v (suc n) r)
+unfolding markWords
 mark-next w v n r =
     let e : 2 + n ≡ suc (suc n) = omega arith in
-    let bs : List ℕ = marks v n (suc r) in
+    let bs : List ℕ = markWords v n (suc r) in
     ap (λ (k : ℕ). writtenAt (k * w) (replicate w marked) (spread w bs)) e
     ∙ written-spread w (suc (suc n)) marked bs (omega (arith, length-marks v n (suc r)))
     ∙ ap (λ (x : ℕ). spread w (set bs (suc (suc n)) x)) (programmed-marked (getD bs (suc (suc n)) 0))
@@ -155,20 +155,20 @@ mark-next w v n r =
     ∙ replicate-snoc n marked (replicate r erased))
 
 -- the validity word written over
-pub void-written : (w v n r : ℕ) → writtenAt w (replicate w marked) (spread w (marks v n r)) ≡ spread w (marks marked n r)
-unfolding marks
+pub void-written : (w v n r : ℕ) → writtenAt w (replicate w marked) (spread w (markWords v n r)) ≡ spread w (markWords marked n r)
+unfolding markWords
 void-written w v n r =
-    ap (λ (z : ℕ). writtenAt z (replicate w marked) (spread w (marks v n r))) (sym (one-times w))
-    ∙ written-spread w 1 marked (marks v n r) (omega (arith, length-marks v n r))
-    ∙ ap (λ (x : ℕ). spread w (marks x n r)) (programmed-marked v)
+    ap (λ (z : ℕ). writtenAt z (replicate w marked) (spread w (markWords v n r))) (sym (one-times w))
+    ∙ written-spread w 1 marked (markWords v n r) (omega (arith, length-marks v n r))
+    ∙ ap (λ (x : ℕ). spread w (markWords x n r)) (programmed-marked v)
   where
     one-times : (k : ℕ) → 1 * k ≡ k
     one-times k = omega arith
 
 -- ---- the areas of specs/Power, of 2 + t words
 
-pub fresh-marks : (w t : ℕ) → magicArea w Swap ((2 + t) * w) ≡ spread w (marks erased 0 (t - 0))
-unfolding magicArea spread marks
+pub fresh-marks : (w t : ℕ) → magicArea w Swap ((2 + t) * w) ≡ spread w (markWords erased 0 (t - 0))
+unfolding magicArea spread markWords
 fresh-marks w t =
     let e : (2 + t) * w - w ≡ w + t * w = omega arith in
     let z : t ≡ t - 0 = omega arith in
@@ -177,8 +177,8 @@ fresh-marks w t =
     ∙ ap (λ (r : List ℕ). replicate w erased ++ r)
     (sym (spread-replicate w t erased) ∙ ap (λ (n : ℕ). spread w (replicate n erased)) z))
 
-pub swapped-marks : (w N t : ℕ) → 2 * N ≤ t → spread w (marks erased (2 * N) (t - 2 * N)) ≡ swapMarks w N ((2 + t) * w)
-unfolding swapMarks spread marks
+pub swapped-marks : (w N t : ℕ) → 2 * N ≤ t → spread w (markWords erased (2 * N) (t - 2 * N)) ≡ swapMarks w N ((2 + t) * w)
+unfolding swapMarks spread markWords
 swapped-marks w N t h =
     let u : ℕ = t - 2 * N in
     let a : t ≡ 2 * N + u = omega arith in
@@ -190,8 +190,8 @@ swapped-marks w N t h =
     (spread-replicate w u erased ∙ ap (λ (n : ℕ). replicate n erased) e))
 
 -- n marks done, and invalid
-pub void-marks : (w n t : ℕ) → n ≤ t → spread w (marks marked n (t - n)) ≡ voidMarks w n ((2 + t) * w)
-unfolding voidMarks spread marks
+pub void-marks : (w n t : ℕ) → n ≤ t → spread w (markWords marked n (t - n)) ≡ voidMarks w n ((2 + t) * w)
+unfolding voidMarks spread markWords
 void-marks w n t h =
     let u : ℕ = t - n in
     let a : t ≡ n + u = omega arith in
@@ -207,11 +207,11 @@ void-marks w n t h =
     ∙ ap (λ (r : List ℕ). r ++ replicate ((2 + t) * w - (2 + n) * w) erased)
     (replicate-append-replicate w (n * w) marked ∙ ap (λ (i : ℕ). replicate i marked) m))
 
-pub reverted-marks : (w N t : ℕ) → 4 * N ≤ t → spread w (marks marked (4 * N) (t - 4 * N)) ≡ revertMarks w N ((2 + t) * w)
+pub reverted-marks : (w N t : ℕ) → 4 * N ≤ t → spread w (markWords marked (4 * N) (t - 4 * N)) ≡ revertMarks w N ((2 + t) * w)
 unfolding revertMarks voidMarks
 reverted-marks w N t h = void-marks w (4 * N) t h
 
 pub reverted-size : (w N t : ℕ) → 4 * N ≤ t → length (revertMarks w N ((2 + t) * w)) ≡ (2 + t) * w
 reverted-size w N t h =
-    let e : length (marks marked (4 * N) (t - 4 * N)) ≡ 2 + t = omega (arith, length-marks marked (4 * N) (t - 4 * N)) in
-    ap length (sym (reverted-marks w N t h)) ∙ length-spread w (marks marked (4 * N) (t - 4 * N)) ∙ ap (λ (z : ℕ). z * w) e
+    let e : length (markWords marked (4 * N) (t - 4 * N)) ≡ 2 + t = omega (arith, length-marks marked (4 * N) (t - 4 * N)) in
+    ap length (sym (reverted-marks w N t h)) ∙ length-spread w (markWords marked (4 * N) (t - 4 * N)) ∙ ap (λ (z : ℕ). z * w) e

@@ -12,7 +12,7 @@ use Rattle.mem_flash.specs.Run.{placed}
 use Rattle.mem_flash.specs.Areas.{Bytes}
 use Rattle.mem_flash.proofs.Runs.{write-placed}
 use Rattle.mem_flash.proofs.Stretches.{Beside, beside-erased}
-use Rattle.mem_flash.proofs.Chunks.{chunked, beside-chunked, filled}
+use Rattle.mem_flash.proofs.Chunks.{chunked, beside-chunked, page-filled}
 use Rattle.mem_flash.proofs.After.{apply-append, after-within, after-first, after-next, after-behind}
 use Rattle.mem_flash.proofs.Erases.{Held, erase-count, erase-whole, erase-held}
 use Rattle.rules.specs.Steps.{chunkOps, fillOps}
@@ -71,7 +71,7 @@ module _ (unit p b at from : ℕ) (a : Area) (source base ys : List ℕ) (f : Fl
       ≡ placed a (take at base ++ (take p (drop from source) ++ drop (at + p) base)) f
   fill-whole bytes inside =
       fill-placed unit p b at from a source ys f units
-      ∙ ap (λ (l : List ℕ). placed a l f) (filled (p / b) at from b p source base ys whole bytes inside fit near)
+      ∙ ap (λ (l : List ℕ). placed a l f) (page-filled (p / b) at from b p source base ys whole bytes inside fit near)
 
   -- the erase, and then some chunks, touch nothing but the page
   chunks-beside : (j : ℕ) → j ≤ p / b → Beside at p base (chunked j at from b source (erasedAt at p ys))
@@ -89,9 +89,9 @@ module _ (unit p b at from : ℕ) (a : Area) (source base ys : List ℕ) (f : Fl
       }
 
   -- and so does what a cut inside leaves of them
-  pub fill-cut : (k : ℕ) → k < p / unit + p / b → Held at p a base f (after k (fillOps unit p b at from source a) (placed a ys f))
+  pub fill-cut-held : (k : ℕ) → k < p / unit + p / b → Held at p a base f (after k (fillOps unit p b at from source a) (placed a ys f))
   unfolding fillOps
-  fill-cut k few = go (decLe (length erases) k)
+  fill-cut-held k few = go (decLe (length erases) k)
     where
       go : Dec (length erases ≤ k) → Held at p a base f (after k (erases ++ chunks) (placed a ys f))
       go (no h) =

@@ -1,5 +1,5 @@
 -- The operations that end a revert, on a state area that may hold anything: invalidate, erase the state area unit by unit, write the
--- magic; all but the first are those of every mark, and of a confirmation that a boot finishes. Serves `power`, `confirming`,
+-- magic; all but the first are those of every mark, and of a confirmation that a boot finishes. Serves `power`, `confirmed`,
 -- `settles`, `marking` and `every-count`. Assumes nothing.
 use mathlib.Core.Path.{_≡_, refl, sym, ap, _∙_}
 use mathlib.Core.List.{List, [], _∷_}
@@ -47,10 +47,10 @@ pub finish-count : (g : Geometry) (f : Flash) → length (finishOps g f) ≡ 2 +
 finish-count g f = ap length (finish-close g f (length (f .state)) refl) ∙ close-count g (length (f .state))
 
 module _ (A R : List ℕ) where
-  pub invalidated : (w : ℕ) (st : List ℕ)
+  pub closed-void : (w : ℕ) (st : List ℕ)
       → apply (invalidateOp w) (closed A R st) ≡ closed A R (writtenAt w (replicate w marked) st)
   unfolding invalidateOp apply change closed
-  invalidated w st = refl
+  closed-void w st = refl
 
   -- the state area erased
   wiped : (es n : ℕ) (st : List ℕ) → n / es * es ≡ n → length st ≡ n
@@ -83,7 +83,7 @@ module _ (A R : List ℕ) where
       → applyAll (closeOps g n) (closed A R st) ≡ closed A R (magicArea (g .ws) Revert n)
   unfolding applyAll closeOps
   finished g n st whole e h =
-      ap (applyAll (renewOps (g .es) (g .ws) n (magic Revert))) (invalidated (g .ws) st)
+      ap (applyAll (renewOps (g .es) (g .ws) n (magic Revert))) (closed-void (g .ws) st)
       ∙ renewed Revert (g .es) (g .ws) n (writtenAt (g .ws) (replicate (g .ws) marked) st) whole
       (length-written (g .ws) (replicate (g .ws) marked) st ∙ e) h
 
@@ -119,7 +119,7 @@ module _ (A R : List ℕ) where
       ≡ closed A R (blank (j * es) (writtenAt w (replicate w marked) st))
   void-part es w n m j st h =
       after-next j (invalidateOp w) (renewOps es w n m) (closed A R st)
-      ∙ ap (after j (renewOps es w n m)) (invalidated w st)
+      ∙ ap (after j (renewOps es w n m)) (closed-void w st)
       ∙ renew-part es w n m j (writtenAt w (replicate w marked) st) h
 
   pub close-part : (g : Geometry) (n j : ℕ) (st : List ℕ) → j ≤ n / g .es

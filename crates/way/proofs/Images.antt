@@ -57,9 +57,9 @@ module _ {p N : ℕ} {A D : List ℕ} (q : Paged p N A D) where
       ∙ append-nil A
 
   -- what lies behind the pages of the swap is as it was
-  pub behind : drop (p + length A) (newDfu p A D) ≡ drop (p + length A) D
+  pub dfu-behind : drop (p + length A) (newDfu p A D) ≡ drop (p + length A) D
   unfolding newDfu
-  behind =
+  dfu-behind =
       ap (drop (p + length A)) (sym (append-assoc (take p D) A (drop (p + length A) D)))
       ∙ drop-at (take p D ++ A) (drop (p + length A) D) (p + length A) (simp length-append (omega (arith, first)))
 
@@ -69,7 +69,7 @@ module _ {p N : ℕ} {A D : List ℕ} (q : Paged p N A D) where
   mix-all-dfu =
       let e : suc N * p ≡ p + length A = omega arith in
       ap (λ (z : ℕ). take z D ++ drop z (newDfu p A D)) e
-      ∙ ap (λ (r : List ℕ). take (p + length A) D ++ r) behind ∙ take-append-drop (p + length A) D
+      ∙ ap (λ (r : List ℕ). take (p + length A) D ++ r) dfu-behind ∙ take-append-drop (p + length A) D
 
   pub mix-first : mix p 1 D (newDfu p A D) ≡ newDfu p A D
   unfolding mix newDfu

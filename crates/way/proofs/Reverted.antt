@@ -20,12 +20,12 @@ use Rattle.rules.specs.Steps.{Copy, toDfu, toActive, revertFrom, copiesOps, pag
 use Rattle.rules.specs.Boot.{bootOps}
 use Rattle.rules.specs.Power.{magicArea, nextCost}
 use Rattle.rules.proofs.Spread.{spread, length-spread, blank-boot}
-use Rattle.rules.proofs.MarkedArea.{marks, length-marks, reads-swap, done-marks, progress-void, confirming-reverted, void-written}
+use Rattle.rules.proofs.MarkedArea.{markWords, length-marks, reads-swap, done-marks, progress-void, confirming-reverted, void-written}
 use Rattle.way.proofs.Finish.{closed, closeOps, close-count, finish-close, finished, close-part}
 use Rattle.way.proofs.Steps.{Whole}
 use Rattle.way.proofs.Way.{Reads, Way, OnWay, Stage, on-stage, on-end, Went, through, stopped, run-on, copies-skip, Kept}
 use Rattle.way.proofs.Tables.{revert-count}
-use Rattle.way.proofs.Wanted.{boot-idle, boot-reverts}
+use Rattle.way.proofs.Wanted.{wants-none, wants-revert}
 
 -- steps whose marks are all read as done
 pub copies-past : (g : Geometry) (f : Flash) (j k i : ℕ) → i + 2 * j ≤ progress (g .ws) (f .state)
@@ -41,13 +41,13 @@ copies-past g f (suc j) k i h =
 
 -- n marks are done, and the validity word holds v
 unfoldable pub closing : Geometry → List ℕ → List ℕ → ℕ → ℕ → ℕ → Flash
-closing g A R t n v = closed A R (spread (g .ws) (marks v n (t - n)))
+closing g A R t n v = closed A R (spread (g .ws) (markWords v n (t - n)))
 
 module _ (g : Geometry) (A R : List ℕ) (t n : ℕ) (h : n < t) where
-  state-size : (v : ℕ) → length (spread (g .ws) (marks v n (t - n))) ≡ (2 + t) * g .ws
+  state-size : (v : ℕ) → length (spread (g .ws) (markWords v n (t - n))) ≡ (2 + t) * g .ws
   state-size v =
-      let e : length (marks v n (t - n)) ≡ 2 + t = omega (arith, length-marks v n (t - n)) in
-      length-spread (g .ws) (marks v n (t - n)) ∙ ap (λ (z : ℕ). z * g .ws) e
+      let e : length (markWords v n (t - n)) ≡ 2 + t = omega (arith, length-marks v n (t - n)) in
+      length-spread (g .ws) (markWords v n (t - n)) ∙ ap (λ (z : ℕ). z * g .ws) e
 
 no-swap : Boot ≡ Swap → ⊥
 no-swap e = let z : _≡_ {A = ℕ} 0 1 = cc in omega arith
@@ -92,8 +92,8 @@ pub record Course (g : Geometry) (N t : ℕ) (A R : List ℕ) (f₀ : Flash) : T
   pub way : Way g N ((2 + t) * g .ws) (2 * N) f₀ (revertFrom N 0 (2 * N)) (closing g A R t (4 * N) erased)
 
 -- the state area's first j units erased, once the marks are void
-unfoldable pub part : Geometry → List ℕ → List ℕ → ℕ → ℕ → ℕ → Flash
-part g A R t n j = closed A R (blank (j * g .es) (spread (g .ws) (marks marked n (t - n))))
+unfoldable pub erasedPart : Geometry → List ℕ → List ℕ → ℕ → ℕ → ℕ → Flash
+erasedPart g A R t n j = closed A R (blank (j * g .es) (spread (g .ws) (markWords marked n (t - n))))
 
 module _ {g : Geometry} {N t : ℕ} {A R : List ℕ} {f₀ : Flash} (course : Course g N t A R f₀) where
   abbrev S : ℕ
@@ -109,7 +109,7 @@ module _ {g : Geometry} {N t : ℕ} {A R : List ℕ} {f₀ : Flash} (course : Co
   void = closing g A R t (4 * N) marked
 
   abbrev gone : ℕ → Flash
-  gone = part g A R t (4 * N)
+  gone = erasedPart g A R t (4 * N)
 
   abbrev done : Flash
   done = closed A R (magicArea (g .ws) Revert S)
@@ -123,14 +123,14 @@ module _ {g : Geometry} {N t : ℕ} {A R : List ℕ} {f₀ : Flash} (course : Co
   -- with a unit erased the state area reads Boot, and nothing is wanted
   module _ (j : ℕ) (some : 1 ≤ j) (most : j ≤ U) where
     pub gone-boot : readState (g .ws) (gone j .state) ≡ Boot
-    unfolding part closed
+    unfolding erasedPart closed
     gone-boot =
-        blank-boot (g .ws) (j * g .es) (spread (g .ws) (marks marked (4 * N) (t - 4 * N))) (course .ws)
+        blank-boot (g .ws) (j * g .es) (spread (g .ws) (markWords marked (4 * N) (t - 4 * N))) (course .ws)
         (omega (arith, mul-le-mul-right (g .es) some, course .unit))
         (omega (arith, mul-le-mul-right (g .es) most, course .units, state-size g A R t (4 * N) (course .room) marked))
 
     pub gone-idle : bootOps g (gone j) ≡ []
-    gone-idle = boot-idle g (gone j) gone-boot
+    gone-idle = wants-none g (gone j) gone-boot
 
   not-gone : (x : Flash) (j : ℕ) → 1 ≤ j → j ≤ U → x ≡ gone j → readState (g .ws) (x .state) ≡ Swap → ⊥
   not-gone x j one most e swap =
@@ -138,14 +138,14 @@ module _ {g : Geometry} {N t : ℕ} {A R : List ℕ} {f₀ : Flash} (course : Co
 
   -- the last operations, from a validity word that holds v: cut after the invalidation and j units, and whole
   close-gone : (v j : ℕ) → j ≤ U → after (suc j) (closeOps g S) (closing g A R t (4 * N) v) ≡ gone j
-  unfolding closing part
+  unfolding closing erasedPart
   close-gone v j less =
-      close-part A R g S j (spread (g .ws) (marks v (4 * N) (t - 4 * N))) less
+      close-part A R g S j (spread (g .ws) (markWords v (4 * N) (t - 4 * N))) less
       ∙ ap (λ (l : List ℕ). closed A R (blank (j * g .es) l)) (void-written (g .ws) v (4 * N) (t - 4 * N))
 
   gone-none : gone 0 ≡ void
-  unfolding closing part blank
-  gone-none = ap (λ (n : ℕ). closed A R (blank n (spread (g .ws) (marks marked (4 * N) (t - 4 * N))))) (zero-mul (g .es))
+  unfolding closing erasedPart blank
+  gone-none = ap (λ (n : ℕ). closed A R (blank n (spread (g .ws) (markWords marked (4 * N) (t - 4 * N))))) (zero-mul (g .es))
 
   closing-swap : (v : ℕ) → readState (g .ws) (closing g A R t (4 * N) v .state) ≡ Swap
   unfolding closing closed
@@ -154,7 +154,7 @@ module _ {g : Geometry} {N t : ℕ} {A R : List ℕ} {f₀ : Flash} (course : Co
   close-all : (v : ℕ) → applyAll (closeOps g S) (closing g A R t (4 * N) v) ≡ done
   unfolding closing
   close-all v =
-      finished A R g S (spread (g .ws) (marks v (4 * N) (t - 4 * N))) (course .units)
+      finished A R g S (spread (g .ws) (markWords v (4 * N) (t - 4 * N))) (course .units)
       (state-size g A R t (4 * N) (course .room) v) (omega arith)
 
   -- where the last operations are cut after the first j: before the erase, or after i units of it
@@ -227,7 +227,7 @@ module _ {g : Geometry} {N t : ℕ} {A R : List ℕ} {f₀ : Flash} (course : Co
 
   void-wants : bootOps g void ≡ closeOps g S
   void-wants =
-      boot-reverts g N S (2 + (4 * N + (t - 4 * N)) - 3) void void-reads (omega arith)
+      wants-revert g N S (2 + (4 * N + (t - 4 * N)) - 3) void void-reads (omega arith)
       ∙ ap₂ (λ (l r : List Op). l ++ r) (copies-past g void N 0 (2 * N) (omega (arith, void-reads .done)))
       (finish-close g void S (void-reads .sized))
 
@@ -252,12 +252,12 @@ module _ {g : Geometry} {N t : ℕ} {A R : List ℕ} {f₀ : Flash} (course : Co
 
     copy-wants : bootOps g now ≡ steps ++ closeOps g S
     copy-wants =
-        boot-reverts g N S (found .at) now (found .reads) (found .past)
+        wants-revert g N S (found .at) now (found .reads) (found .past)
         ∙ ap (λ (l : List Op). steps ++ l) (finish-close g now S (found .reads .sized))
 
     -- where no step is left, none is wanted
-    none-left : rest ≡ 0 → steps ≡ []
-    none-left e =
+    no-steps : rest ≡ 0 → steps ≡ []
+    no-steps e =
         copies-past g now N 0 (2 * N) (omega (arith, found .sum, found .reads .done, revert-count N 0 (2 * N)))
 
     copy-run : (k : ℕ) → Turned now (suc rest) k (bootOps g now)
@@ -266,7 +266,7 @@ module _ {g : Geometry} {N t : ℕ} {A R : List ℕ} {f₀ : Flash} (course : Co
       where
         some : nextCost g now ≤ k → k < length steps + 2 → Dec (1 ≤ rest) → 1 < suc rest
         some x y (yes z) = omega arith
-        some x y (no z) = absurd (omega (arith, course .cost now, ap length (none-left (omega (arith, lt-of-not-le z)))))
+        some x y (no z) = absurd (omega (arith, course .cost now, ap length (no-steps (omega (arith, lt-of-not-le z)))))
 
         go : Went g N S h (2 * N) cs rest now k steps → Turned now (suc rest) k (steps ++ closeOps g S)
         go (through l d none) =
@@ -365,18 +365,18 @@ module _ {g : Geometry} {N t : ℕ} {A R : List ℕ} {f₀ : Flash} (course : Co
         omega (arith, here, revert-at next (left .0) (o .1))
 
   -- where only the end is left, it is all that is wanted
-  pub revert-last : (now : Flash) (m : ℕ) → Turning now m → m ≤ 1 → length (bootOps g now) ≤ 2 + U
-  revert-last now m (copying {rest = rest} on) e =
+  pub last-most : (now : Flash) (m : ℕ) → Turning now m → m ≤ 1 → length (bootOps g now) ≤ 2 + U
+  last-most now m (copying {rest = rest} on) e =
       omega (
         arith,
         ap length (copy-wants now rest on),
         length-append (copiesOps g (revertFrom N 0 (2 * N)) now) (closeOps g S),
         close-count g S,
         ap length
-            (none-left now rest on (omega arith)),
+            (no-steps now rest on (omega arith)),
       )
-  revert-last now m (voided q) e = omega (arith, ap length (ap (bootOps g) q ∙ void-wants), close-count g S)
-  revert-last now m (emptied j one most q) e = omega (arith, ap length (ap (bootOps g) q ∙ gone-idle j one most))
+  last-most now m (voided q) e = omega (arith, ap length (ap (bootOps g) q ∙ void-wants), close-count g S)
+  last-most now m (emptied j one most q) e = omega (arith, ap length (ap (bootOps g) q ∙ gone-idle j one most))
 
   pub revert-place : (now : Flash) (m : ℕ) → Turning now m → (k : ℕ) → k < length (bootOps g now)
       → LastCut g U gone (λ (r : ℕ). k + r ≡ length (bootOps g now)) (after k (bootOps g now) now)
@@ -389,9 +389,9 @@ module _ {g : Geometry} {N t : ℕ} {A R : List ℕ} {f₀ : Flash} (course : Co
       go (cut l c gain o w) = w
 
   -- a run that is not cut leaves the images, from a state area that reads Swap or from one with erased units
-  pub revert-ends : (now : Flash) (m : ℕ) → Turning now m → readState (g .ws) (now .state) ≡ Swap → (k : ℕ)
+  pub revert-done : (now : Flash) (m : ℕ) → Turning now m → readState (g .ws) (now .state) ≡ Swap → (k : ℕ)
       → length (bootOps g now) ≤ k → after k (bootOps g now) now ≡ done
-  revert-ends now m on swap k long = go (revert-run now m on k)
+  revert-done now m on swap k long = go (revert-run now m on k)
     where
       go : Turned now m k (bootOps g now) → after k (bootOps g now) now ≡ done
       go (ends l d s) = after-all k (bootOps g now) now long ∙ d

@@ -1,4 +1,4 @@
--- What the laws of the way take from a geometry that a boot admits. Serves `power`, `never-mixed` and `confirming`. Assumes nothing.
+-- What the laws of the way take from a geometry that a boot admits. Serves `power`, `never-mixed` and `confirmed`. Assumes nothing.
 use mathlib.Core.Path.{_≡_, sym, ap, _∙_}
 use Prim.Native.Nat.{ℕ, zero, suc, _+_, _-_, _*_, _/_, _≤_, _<_, zero-le, suc-le-suc}
 use native.Mathlib.Nat.{zero-mul, mul-le-mul-right, dvd-of-mod-eq-zero, dvd-trans, div-mul-cancel}

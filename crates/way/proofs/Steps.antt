@@ -22,7 +22,7 @@ use Rattle.mem_flash.proofs.Erases.{Held}
 use Rattle.rules.specs.StateArea.{markOp}
 use Rattle.rules.specs.Steps.{Copy, sourceOf, unitOf, fillOps, copyOps}
 use Rattle.rules.specs.Power.{pageAt, withPage}
-use Rattle.way.proofs.Fill.{fill-count, fill-whole, fill-held, fill-cut}
+use Rattle.way.proofs.Fill.{fill-count, fill-whole, fill-held, fill-cut-held}
 
 -- ---- a step
 
@@ -80,14 +80,14 @@ filling g c source = fillOps (unitOf g (c .to)) (page g) (g .b) (c .target * pag
 
 module _ (g : Geometry) (whole : Whole g) (c : Copy) (f : Flash) (fits : Fits g c f) (now : Flash)
     (near : Near g c f now) where
-  abbrev mark : List Op
-  mark = markOp (g .ws) (c .mark) ∷ []
+  abbrev markOps : List Op
+  markOps = markOp (g .ws) (c .mark) ∷ []
 
   -- a copy from a flash that is near f has the operations of one from f
-  copy-near : copyOps g c now ≡ filling g c (sourceOf (c .to) f) ++ mark
+  copy-near : copyOps g c now ≡ filling g c (sourceOf (c .to) f) ++ markOps
   unfolding copyOps
   copy-near =
-      ap (λ (s : List ℕ). filling g c s ++ mark)
+      ap (λ (s : List ℕ). filling g c s ++ markOps)
       (ap (sourceOf (c .to)) (near .same) ∙ source-placed (c .to) (near .held) f (fits .image))
 
   -- the page that it fills, and the operations that fill it
@@ -117,7 +117,7 @@ module _ (g : Geometry) (whole : Whole g) (c : Copy) (f : Flash) (fits : Fits g 
 
   fills-cut : (k : ℕ) → k < length fills → Near g c f (after k fills start)
   fills-cut k h =
-      fill-cut (unitOf g (c .to)) (page g) (g .b) (c .target * page g) (c .source * page g) (c .to) (sourceOf (c .to) f)
+      fill-cut-held (unitOf g (c .to)) (page g) (g .b) (c .target * page g) (c .source * page g) (c .to) (sourceOf (c .to) f)
       (areaOf (c .to) f) (near .held) f (whole .units (c .to) (fits .image)) (whole .chunks) (fits .inside-target) (near .beside)
       k (omega (arith, h, fills-count))
 
@@ -125,18 +125,18 @@ module _ (g : Geometry) (whole : Whole g) (c : Copy) (f : Flash) (fits : Fits g 
   pub step-whole : applyAll (copyOps g c now) now ≡ stepped g c f
   unfolding applyAll apply markOp stepped
   step-whole =
-      ap₂ applyAll copy-near (near .same) ∙ apply-append fills mark start ∙ ap (applyAll mark) fills-whole
+      ap₂ applyAll copy-near (near .same) ∙ apply-append fills markOps start ∙ ap (applyAll markOps) fills-whole
 
   -- cut, inside the page or at the mark, it leaves a flash that is near f
-  pub step-cut : (k : ℕ) → k < length (copyOps g c now) → Near g c f (after k (copyOps g c now) now)
-  step-cut k h =
+  pub step-cut-near : (k : ℕ) → k < length (copyOps g c now) → Near g c f (after k (copyOps g c now) now)
+  step-cut-near k h =
       subst (λ (x : Flash). Near g c f x) (sym (ap₂ (after k) copy-near (near .same))) (go (decLe (length fills) k))
     where
-      go : Dec (length fills ≤ k) → Near g c f (after k (fills ++ mark) start)
+      go : Dec (length fills ≤ k) → Near g c f (after k (fills ++ markOps) start)
       go (no l) =
-          subst (λ (x : Flash). Near g c f x) (sym (after-within k fills mark start (lt-of-not-le l)))
+          subst (λ (x : Flash). Near g c f x) (sym (after-within k fills markOps start (lt-of-not-le l)))
           (fills-cut k (lt-of-not-le l))
       go (yes l) =
-          let e : k ≡ length fills = omega (arith, h, ap length copy-near, length-append fills mark) in
+          let e : k ≡ length fills = omega (arith, h, ap length copy-near, length-append fills markOps) in
           subst (λ (x : Flash). Near g c f x)
-          (sym (ap (λ (i : ℕ). after i (fills ++ mark) start) e ∙ after-between fills mark start)) fills-near
+          (sym (ap (λ (i : ℕ). after i (fills ++ markOps) start) e ∙ after-between fills markOps start)) fills-near

@@ -16,7 +16,7 @@ use Rattle.rules.specs.Power.{nextCost}
 use Rattle.way.proofs.Steps.{Whole}
 use Rattle.way.proofs.Way.{OnWay, on-stage, Went, through, stopped, run-on, Kept}
 use Rattle.way.proofs.Tables.{swap-count}
-use Rattle.way.proofs.Wanted.{boot-swaps}
+use Rattle.way.proofs.Wanted.{wants-swap}
 
 module _ (g : Geometry) (whole : Whole g) (N S : ℕ) (h : Flash) where
   -- on the way of the swap to h, with some steps left
@@ -27,7 +27,7 @@ module _ (g : Geometry) (whole : Whole g) (N S : ℕ) (h : Flash) where
   swap-run now rest on k =
       let r = on-stage g N S h now (on .0) in
       let e : bootOps g now ≡ copiesOps g (swapFrom N 0) now =
-      boot-swaps g N S (r .at) now (r .reads) (omega (arith, r .sum, swap-count N 0, on .1)) in
+      wants-swap g N S (r .at) now (r .reads) (omega (arith, r .sum, swap-count N 0, on .1)) in
       subst (λ (os : List Op). Went g N S h 0 (swapFrom N 0) rest now k os) (sym e) (run-on g whole N S h now (on .0) k)
 
   pub swap-kept : (now : Flash) (rest : ℕ) → Swapping now rest → (k : ℕ) → k < length (bootOps g now)
@@ -39,9 +39,9 @@ module _ (g : Geometry) (whole : Whole g) (N S : ℕ) (h : Flash) where
       go (through l d z) = absurd (not-le-of-lt short l)
       go (stopped l c p b gain still o) = record { rest = l; inv = (o, p); gain = gain }
 
-  pub swap-ends : (now : Flash) (rest : ℕ) → Swapping now rest → (k : ℕ) → length (bootOps g now) ≤ k
+  pub swap-done : (now : Flash) (rest : ℕ) → Swapping now rest → (k : ℕ) → length (bootOps g now) ≤ k
       → after k (bootOps g now) now ≡ h
-  swap-ends now rest on k long = after-all k (bootOps g now) now long ∙ go (swap-run now rest on k)
+  swap-done now rest on k long = after-all k (bootOps g now) now long ∙ go (swap-run now rest on k)
     where
       go : Went g N S h 0 (swapFrom N 0) rest now k (bootOps g now) → applyAll (bootOps g now) now ≡ h
       go (through l d z) = d

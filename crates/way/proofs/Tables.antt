@@ -19,7 +19,7 @@ use Rattle.rules.specs.Steps.{Copy, toDfu, toActive, swapFrom, revertFrom, sour
 use Rattle.rules.specs.Power.{pageAt, withPage, stepTo}
 use Rattle.rules.proofs.Pages.{mix, pages-le, length-mix, page-mix-left, page-mix-right, mix-up, mix-down}
 use Rattle.rules.proofs.Spread.{spread, length-spread}
-use Rattle.rules.proofs.MarkedArea.{marks, length-marks, reads-swap, counted, progress-marks, confirming-counted, mark-next}
+use Rattle.rules.proofs.MarkedArea.{markWords, length-marks, reads-swap, marks-valid, progress-marks, confirming-counted, mark-next}
 use Rattle.way.proofs.Steps.{stepped}
 use Rattle.way.proofs.Costs.{even-dfu, odd-active}
 use Rattle.way.proofs.Way.{Reads, Leg, Way}
@@ -54,21 +54,21 @@ revert-count zero k i = refl
 revert-count (suc j) k i = omega (arith, revert-count j (k + 1) (i + 2))
 
 -- steps on the images, numbered from i on
-abbrev pub Row : ℕ → List Copy → Type 0
-Row i [] = Unit {0}
-Row i (c ∷ cs) = Image (c .to) × (c .mark ≡ i) × Row (suc i) cs
+abbrev pub StepRow : ℕ → List Copy → Type 0
+StepRow i [] = Unit {0}
+StepRow i (c ∷ cs) = Image (c .to) × (c .mark ≡ i) × StepRow (suc i) cs
 
-pub swap-row : (k i : ℕ) → Row i (swapFrom k i)
+pub swap-row : (k i : ℕ) → StepRow i (swapFrom k i)
 unfolding swapFrom toDfu toActive
 swap-row zero i = tt
 swap-row (suc k) i =
-    (tt, refl, (tt, omega arith, subst (λ (n : ℕ). Row n (swapFrom k (i + 2))) (omega arith) (swap-row k (i + 2))))
+    (tt, refl, (tt, omega arith, subst (λ (n : ℕ). StepRow n (swapFrom k (i + 2))) (omega arith) (swap-row k (i + 2))))
 
-pub revert-row : (j k i : ℕ) → Row i (revertFrom j k i)
+pub revert-row : (j k i : ℕ) → StepRow i (revertFrom j k i)
 unfolding revertFrom toDfu toActive
 revert-row zero k i = tt
 revert-row (suc j) k i =
-    (tt, refl, (tt, omega arith, subst (λ (n : ℕ). Row n (revertFrom j (k + 1) (i + 2))) (omega arith) (revert-row j (k + 1) (i + 2))))
+    (tt, refl, (tt, omega arith, subst (λ (n : ℕ). StepRow n (revertFrom j (k + 1) (i + 2))) (omega arith) (revert-row j (k + 1) (i + 2))))
 
 -- ---- the table
 
@@ -91,22 +91,22 @@ pub record Images (p N : ℕ) (A D A′ D′ : List ℕ) : Type 0 where
   pub dfu-page : (k : ℕ) → k < N → pageAt p (suc k) D′ ≡ pageAt p k A
 
 -- c pages of active and d of DFU are old, the others new; n marks of t are done
-unfoldable pub table : Geometry → List ℕ → List ℕ → List ℕ → List ℕ → ℕ → ℕ → ℕ → ℕ → Flash
-table g A D A′ D′ t c d n =
-    record { active = mix (page g) c A A′; dfu = mix (page g) d D D′; state = spread (g .ws) (marks erased n (t - n)) }
+unfoldable pub stageTable : Geometry → List ℕ → List ℕ → List ℕ → List ℕ → ℕ → ℕ → ℕ → ℕ → Flash
+stageTable g A D A′ D′ t c d n =
+    record { active = mix (page g) c A A′; dfu = mix (page g) d D D′; state = spread (g .ws) (markWords erased n (t - n)) }
 
 mark-more : (w v n t : ℕ) → n < t
-    → writtenAt ((2 + n) * w) (replicate w marked) (spread w (marks v n (t - n))) ≡ spread w (marks v (suc n) (t - suc n))
+    → writtenAt ((2 + n) * w) (replicate w marked) (spread w (markWords v n (t - n))) ≡ spread w (markWords v (suc n) (t - suc n))
 mark-more w v n t h =
     let e : t - n ≡ suc (t - suc n) = omega arith in
-    ap (λ (r : ℕ). writtenAt ((2 + n) * w) (replicate w marked) (spread w (marks v n r))) e ∙ mark-next w v n (t - suc n)
+    ap (λ (r : ℕ). writtenAt ((2 + n) * w) (replicate w marked) (spread w (markWords v n r))) e ∙ mark-next w v n (t - suc n)
 
 module _ (g : Geometry) (N t : ℕ) (A D A′ D′ : List ℕ) (ws : 0 < g .ws) (im : Images (page g) N A D A′ D′) where
   abbrev P : ℕ
   P = page g
 
   abbrev at : ℕ → ℕ → ℕ → Flash
-  at = table g A D A′ D′ t
+  at = stageTable g A D A′ D′ t
 
   active-length : (c : ℕ) → c ≤ N → length (mix P c A A′) ≡ N * P
   active-length c h = length-mix P c A A′ (im .active-same) (omega (arith, mul-le-mul-right P h, im .active)) ∙ im .active
@@ -115,22 +115,22 @@ module _ (g : Geometry) (N t : ℕ) (A D A′ D′ : List ℕ) (ws : 0 < g .ws) 
   dfu-length d h = length-mix P d D D′ (im .dfu-same) (omega (arith, mul-le-mul-right P h, suc-mul N P, im .dfu))
 
   pub table-reads : (c d n : ℕ) → c ≤ N → n < t → Reads g N ((2 + t) * g .ws) n (at c d n)
-  unfolding table pageCount pages
+  unfolding stageTable pageCount pages
   table-reads c d n hc h =
-      let all : length (marks erased n (t - n)) ≡ 2 + t = omega (arith, length-marks erased n (t - n)) in
+      let all : length (markWords erased n (t - n)) ≡ 2 + t = omega (arith, length-marks erased n (t - n)) in
       record {
         swap = reads-swap (g .ws) ws erased n (t - n) (omega arith);
         paged = ap (λ (l : ℕ). l / P) (active-length c hc) ∙ mul-div-cancel N (im .some);
-        sized = length-spread (g .ws) (marks erased n (t - n)) ∙ ap (λ (l : ℕ). l * g .ws) all;
+        sized = length-spread (g .ws) (markWords erased n (t - n)) ∙ ap (λ (l : ℕ). l * g .ws) all;
         done = progress-marks (g .ws) ws n (t - n) (omega arith);
-        settled = confirming-counted (g .ws) N _ (counted (g .ws) ws n (t - n) (omega arith));
+        settled = confirming-counted (g .ws) N _ (marks-valid (g .ws) ws n (t - n) (omega arith));
       }
 
   -- a step to DFU: page k from active page s, with c pages of active and d of DFU old, moves d to d′
   leg-dfu : (c d d′ s k n : ℕ) → c ≤ N → d ≤ suc N → s < N → k * P + P ≤ length D → n < t → dfu ≡ stepTo n
       → withPage P k (pageAt P s (mix P c A A′)) (mix P d D D′) ≡ mix P d′ D D′
       → Leg g N ((2 + t) * g .ws) n (toDfu n s k) (at c d n) (at c d′ (suc n))
-  unfolding table toDfu stepped placed change sourceOf areaOf
+  unfolding stageTable toDfu stepped placed change sourceOf areaOf
   leg-dfu c d d′ s k n hc hd hs fit hn to e =
       record {
         reads = table-reads c d n hc hn;
@@ -150,7 +150,7 @@ module _ (g : Geometry) (N t : ℕ) (A D A′ D′ : List ℕ) (ws : 0 < g .ws) 
   leg-active : (c c′ d s k n : ℕ) → c ≤ N → d ≤ suc N → s * P + P ≤ length D → k < N → n < t → active ≡ stepTo n
       → withPage P k (pageAt P s (mix P d D D′)) (mix P c A A′) ≡ mix P c′ A A′
       → Leg g N ((2 + t) * g .ws) n (toActive n s k) (at c d n) (at c′ d (suc n))
-  unfolding table toActive stepped placed change sourceOf areaOf
+  unfolding stageTable toActive stepped placed change sourceOf areaOf
   leg-active c c′ d s k n hc hd fit hk hn to e =
       record {
         reads = table-reads c d n hc hn;

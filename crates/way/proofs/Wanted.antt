@@ -1,4 +1,4 @@
--- Which operations a boot wants, by what it reads. Serves `power`, `settles` and `confirming`. Assumes nothing.
+-- Which operations a boot wants, by what it reads. Serves `power`, `settles` and `confirmed`. Assumes nothing.
 use mathlib.Core.Path.{_≡_, ap, _∙_}
 use mathlib.Core.Bool.{Bool, true}
 use mathlib.Core.List.{[], _++_}
@@ -18,19 +18,19 @@ use Rattle.way.proofs.Way.{Reads}
 
 module _ (g : Geometry) (f : Flash) where
   -- none in the states Boot and Revert
-  pub boot-idle : readState (g .ws) (f .state) ≡ Boot → bootOps g f ≡ []
+  pub wants-none : readState (g .ws) (f .state) ≡ Boot → bootOps g f ≡ []
   unfolding bootOps bootOpsIn
-  boot-idle e = ap (λ (s : State). bootOpsIn s g f) e
+  wants-none e = ap (λ (s : State). bootOpsIn s g f) e
 
-  pub revert-idle : readState (g .ws) (f .state) ≡ Revert → bootOps g f ≡ []
+  pub wants-none-reverted : readState (g .ws) (f .state) ≡ Revert → bootOps g f ≡ []
   unfolding bootOps bootOpsIn
-  revert-idle e = ap (λ (s : State). bootOpsIn s g f) e
+  wants-none-reverted e = ap (λ (s : State). bootOpsIn s g f) e
 
   -- the erase and the Boot magic after a confirmation that was cut
-  pub boot-confirms : readState (g .ws) (f .state) ≡ Swap → confirming (g .ws) (pageCount g f) (f .state) ≡ true
+  pub wants-renewal : readState (g .ws) (f .state) ≡ Swap → confirming (g .ws) (pageCount g f) (f .state) ≡ true
       → bootOps g f ≡ renewOps (g .es) (g .ws) (length (f .state)) (magic Boot)
   unfolding bootOps bootOpsIn pick
-  boot-confirms e c =
+  wants-renewal e c =
       ap (λ (s : State). bootOpsIn s g f) e
       ∙ ap (λ (b : Bool). pick b (renewOps (g .es) (g .ws) (length (f .state)) (magic Boot)) (swapOrRevertOps g f)) c
 
@@ -42,17 +42,17 @@ module _ (g : Geometry) (N S n : ℕ) (f : Flash) (r : Reads g N S n f) where
       ∙ ap (λ (b : Bool). pick b (renewOps (g .es) (g .ws) (length (f .state)) (magic Boot)) (swapOrRevertOps g f))
       (ap (λ (n : ℕ). confirming (g .ws) n (f .state)) (r .paged) ∙ r .settled)
 
-  pub boot-swaps : n < 2 * N → bootOps g f ≡ copiesOps g (swapFrom N 0) f
+  pub wants-swap : n < 2 * N → bootOps g f ≡ copiesOps g (swapFrom N 0) f
   unfolding swapOrRevertOps pick swapOps swapSteps
-  boot-swaps h =
+  wants-swap h =
       boot-in
       ∙ ap (λ (b : Bool). pick b (swapOps g f) (revertOps g f ++ finishOps g f))
       (lt-ltb (progress (g .ws) (f .state)) (2 * pageCount g f) (rw (r .done, r .paged) h))
       ∙ ap (λ (m : ℕ). copiesOps g (swapFrom m 0) f) (r .paged)
 
-  pub boot-reverts : 2 * N ≤ n → bootOps g f ≡ copiesOps g (revertFrom N 0 (2 * N)) f ++ finishOps g f
+  pub wants-revert : 2 * N ≤ n → bootOps g f ≡ copiesOps g (revertFrom N 0 (2 * N)) f ++ finishOps g f
   unfolding swapOrRevertOps pick revertOps revertSteps
-  boot-reverts h =
+  wants-revert h =
       boot-in
       ∙ ap (λ (b : Bool). pick b (swapOps g f) (revertOps g f ++ finishOps g f))
       (le-ltb (progress (g .ws) (f .state)) (2 * pageCount g f) (rw (r .done, r .paged) h))

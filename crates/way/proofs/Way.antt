@@ -21,7 +21,7 @@ use Rattle.rules.specs.StateArea.{readState, progress}
 use Rattle.rules.specs.Steps.{Copy, copyOps, onceOps, copiesOps, pageCount}
 use Rattle.rules.specs.Boot.{confirming}
 use Rattle.rules.specs.Power.{stepTo, nextCost}
-use Rattle.way.proofs.Steps.{Whole, Fits, Near, near-refl, stepped, step-whole, step-cut}
+use Rattle.way.proofs.Steps.{Whole, Fits, Near, near-refl, stepped, step-whole, step-cut-near}
 use Rattle.way.proofs.Costs.{next-count}
 
 -- ---- the way
@@ -196,7 +196,7 @@ module _ (g : Geometry) (whole : Whole g) (N S : ℕ) (h : Flash) where
           (λ x. absurd (omega (arith, cost))) (λ x. refl)
           (here f w
           (subst (λ (x : Flash). Near g c f x) (sym (after-within k first (copiesOps g cs next) now short))
-          (step-cut g whole c f (leg .fits) now near k short)))
+          (step-cut-near g whole c f (leg .fits) now near k short)))
 
   pub run-on : (now : Flash) {m rest : ℕ} {cs : List Copy} → OnWay g N S h now m cs rest → (k : ℕ)
       → Went g N S h m cs rest now k (copiesOps g cs now)
