@@ -1,13 +1,12 @@
 -- Laws of runs. `joined` is the one that puts two runs together, and its two readings `then-on` and `then-cut` are what every
 -- caller of an operation cites; `run-is` shows that the walk and the count are the same. Assumes nothing.
 use mathlib.Core.Path.{_≡_, refl, ap, _∙_, sym}
-use mathlib.Core.Bool.{Bool, true, false}
 use mathlib.Core.List.{List, [], _∷_, _++_}
-use Prim.Native.Nat.{ℕ, zero, suc, _+_, _-_, _/_, _≤_, _<_}
+use Prim.Native.Nat.{ℕ, zero, suc, _+_, _-_, _/_, _<_}
 use native.Mathlib.Nat.{sub-zero, suc-sub-suc, not-suc-le-zero, div-zero, zero-div, div-self}
 use native.Mathlib.Omega.{arith}
-use lib.Dec.{leb, leb·zero, leb·suc-zero, leb·suc-suc}
-use lib.ListN.{length, take}
+use lib.Dec.{leb·zero, leb·suc-zero, leb·suc-suc}
+use lib.ListN.{length}
 use Rattle.state.specs.Choice.{pick}
 use Rattle.mem_flash.specs.declared.Budget.{Budget}
 use Rattle.mem_flash.specs.declared.Flow.{Flow}

@@ -1,5 +1,6 @@
 -- Document 01, "What the power may do", and demand 3 of the request: the statement. The tables are those of the crate
--- `rules`, a run is a call of prepare_boot with a budget, and no step is run here. Proved in proofs/Proved, and for N = 0 in proofs/NoPages. Assumes nothing.
+-- `rules`, a run is a call of prepare_boot with a budget, and no step is run here. Proved in proofs/Proved, and for N = 0 in
+-- proofs/NoPages. Assumes nothing.
 use mathlib.Core.Path.{_≡_}
 use mathlib.Core.Option.{some}
 use mathlib.Core.List.{List, [], _∷_}

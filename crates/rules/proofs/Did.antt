@@ -2,12 +2,12 @@
 -- return. Assumes nothing.
 use mathlib.Core.Path.{_≡_, refl, ap, _∙_, sym}
 use mathlib.Core.Bool.{Bool, true, false}
-use mathlib.Core.Option.{Option, none, some}
+use mathlib.Core.Option.{none, some}
 use mathlib.Core.List.{List, []}
-use Prim.Native.Nat.{ℕ, zero, suc, _-_, _≤_, _<_}
+use Prim.Native.Nat.{ℕ, _-_, _≤_, _<_}
 use native.Mathlib.Omega.{arith}
 use lib.Dec.{leb, eqb, leb·zero, lit<}
-use lib.ListN.{length, take}
+use lib.ListN.{length}
 use borrow.Author.Tests.{eq-eqb, ne-eqb, le-leb, leb-true}
 use Rattle.state.specs.declared.State.{State}
 use Rattle.state.specs.Choice.{pick}
@@ -19,10 +19,9 @@ use Rattle.geometry.specs.Refusals.{number, verdict}
 use Rattle.mem_flash.specs.declared.Budget.{Budget}
 use Rattle.mem_flash.specs.declared.Flow.{Flow}
 use Rattle.mem_flash.specs.declared.Flow.the-variants as flows
-use Rattle.mem_flash.specs.Flash.{Flash, Op, applyAll, after}
+use Rattle.mem_flash.specs.Flash.{Flash, Op}
 use Rattle.mem_flash.specs.Run.{on, outcome, Ran}
 use Rattle.mem_flash.proofs.After.{after-none}
-use Rattle.rules.specs.declared.Answer.{Answer}
 use Rattle.rules.specs.declared.Answer.the-variants.{Found, Done, Refused, Cut}
 use Rattle.rules.specs.Calls.{Call, reported, report, left, Did}
 

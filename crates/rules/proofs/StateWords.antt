@@ -7,7 +7,7 @@ use Prim.Native.Nat.{ℕ, suc, _+_, _-_, _*_, _≤_, _<_}
 use native.Mathlib.Numerals.{add-one}
 use native.Mathlib.Omega.{arith}
 use lib.Dec.{eqb}
-use lib.ListN.{length, take, drop}
+use lib.ListN.{take, drop}
 use borrow.Author.Tests.{eq-eqb}
 use Rattle.state.specs.Choice.{pick}
 use Rattle.state.specs.Magic.{erased, holds}

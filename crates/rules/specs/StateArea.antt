@@ -1,6 +1,6 @@
 -- Document 01, "State area": words, the magic, the validity, the marks and the progress. Assumes nothing.
 use mathlib.Core.Bool.{Bool}
-use mathlib.Core.List.{List, [], _∷_}
+use mathlib.Core.List.{List}
 use Prim.Native.Nat.{ℕ, zero, suc, _+_, _-_, _*_}
 use lib.ListN.{length, take, drop, replicate}
 use Rattle.state.specs.declared.State.{State}

@@ -1,5 +1,4 @@
 -- Document 01, "Steps": the swap and the revert as tables of page copies, and the operations of a copy. Assumes nothing.
-use mathlib.Core.Bool.{Bool}
 use mathlib.Core.List.{List, [], _∷_, _++_}
 use Prim.Native.Nat.{ℕ, zero, suc, _+_, _*_, _/_}
 use lib.Dec.{leb}

@@ -5,9 +5,6 @@ use Rattle.mem_flash.proofs.Runs.{erase-unitless, erase-nothing, erase-
 use borrow.Author.Needs.{needs}
 use Rattle.mem_flash.proofs.erase.Statement.{statement}
 use Rattle.mem_flash.proofs.erase.Tie as tie
-use Rattle.mem_flash.proofs.erase.Reads as reads
-use Rattle.mem_flash.proofs.erase.Lts as lts
-use Rattle.mem_flash.proofs.erase_units.Reads as erase-units-reads
 
 -- src/lib.rt:97:9
 returns : tie.Need-returns

@@ -4,10 +4,6 @@ use Rattle.mem_flash.proofs.Runs.{cut-erase, on-erase}
 use borrow.Author.Needs.{needs}
 use Rattle.mem_flash.proofs.erase_unit.Statement.{statement}
 use Rattle.mem_flash.proofs.erase_unit.Tie as tie
-use Rattle.mem_flash.proofs.erase_unit.Reads as reads
-use Rattle.mem_flash.proofs.erase_unit.Lts as lts
-use Rattle.mem_flash.proofs.fill.Reads as fill-reads
-use Rattle.mem_flash.proofs.least.Reads as least-reads
 
 -- src/lib.rt:70:9
 returns : tie.Need-returns

@@ -9,9 +9,6 @@ use Rattle.mem_flash.proofs.Runs.{unit-on, unit-cut, units-none}
 use borrow.Author.Needs.{needs}
 use Rattle.mem_flash.proofs.erase_units.Statement.{statement}
 use Rattle.mem_flash.proofs.erase_units.Tie as tie
-use Rattle.mem_flash.proofs.erase_units.Reads as reads
-use Rattle.mem_flash.proofs.erase_units.Lts as lts
-use Rattle.mem_flash.proofs.erase_unit.Reads as erase-unit-reads
 
 abbrev Inv-loop : tie.InvT-loop
 Inv-loop area₀ from count unit at₀ still₀ i₀ area at still i = (i ≤ count) × (at ≡ at₀ + i * unit) × (length area ≡ length area₀)

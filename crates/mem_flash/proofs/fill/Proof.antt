@@ -1,14 +1,11 @@
-use mathlib.Core.Path.{_≡_, refl, _∙_, sym}
-use Prim.Native.Nat.{_+_, _-_, _≤_}
-use native.Mathlib.Omega.{arith}
-use lib.ListN.{length, take, drop, replicate}
-use Rattle.mem_flash.specs.Flash.{erasedAt, writtenAt}
+use mathlib.Core.Path.{_≡_, _∙_, sym}
+use Prim.Native.Nat.{_-_}
+use lib.ListN.{length}
+use Rattle.mem_flash.specs.Flash.{erasedAt}
 use Rattle.mem_flash.proofs.Bytes.{erase-turn, erase-end}
 use borrow.Author.Needs.{needs}
 use Rattle.mem_flash.proofs.fill.Statement.{statement}
 use Rattle.mem_flash.proofs.fill.Tie as tie
-use Rattle.mem_flash.proofs.fill.Reads as reads
-use Rattle.mem_flash.proofs.fill.Lts as lts
 
 abbrev Inv-loop : tie.InvT-loop
 Inv-loop area₀ from to i₀ area i = (length area ≡ length area₀) × (erasedAt i (to - i) area ≡ erasedAt from (to - from) area₀)

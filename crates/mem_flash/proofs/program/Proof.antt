@@ -1,15 +1,12 @@
 use native.Mathlib.Nat.{add-zero, sub-zero}
 use mathlib.Core.Path.{_≡_, refl, _∙_, sym}
 use Prim.Native.Nat.{_+_, _-_, _≤_}
-use native.Mathlib.Omega.{arith}
-use lib.ListN.{length, take, drop, replicate}
-use Rattle.mem_flash.specs.Flash.{erasedAt, writtenAt}
+use lib.ListN.{length, take, drop}
+use Rattle.mem_flash.specs.Flash.{writtenAt}
 use Rattle.mem_flash.proofs.Bytes.{write-turn, write-end}
 use borrow.Author.Needs.{needs}
 use Rattle.mem_flash.proofs.program.Statement.{statement}
 use Rattle.mem_flash.proofs.program.Tie as tie
-use Rattle.mem_flash.proofs.program.Reads as reads
-use Rattle.mem_flash.proofs.program.Lts as lts
 
 abbrev Inv-loop : tie.InvT-loop
 Inv-loop area₀ at bytes len i₀ area i = (i ≤ len) × (length area ≡ length area₀) × (writtenAt (at + i) (take (len - i) (drop i bytes)) area ≡ writtenAt at (take len bytes) area₀)

@@ -1,15 +1,12 @@
 use native.Mathlib.Nat.{add-zero, sub-zero}
 use mathlib.Core.Path.{_≡_, refl, _∙_, sym}
 use Prim.Native.Nat.{_+_, _-_, _≤_}
-use native.Mathlib.Omega.{arith}
-use lib.ListN.{length, take, drop, replicate}
-use Rattle.mem_flash.specs.Flash.{erasedAt, writtenAt}
+use lib.ListN.{length, replicate}
+use Rattle.mem_flash.specs.Flash.{writtenAt}
 use Rattle.mem_flash.proofs.Bytes.{word-turn, word-end}
 use borrow.Author.Needs.{needs}
 use Rattle.mem_flash.proofs.program_word.Statement.{statement}
 use Rattle.mem_flash.proofs.program_word.Tie as tie
-use Rattle.mem_flash.proofs.program_word.Reads as reads
-use Rattle.mem_flash.proofs.program_word.Lts as lts
 
 abbrev Inv-loop : tie.InvT-loop
 Inv-loop area₀ at value len i₀ area i = (i ≤ len) × (length area ≡ length area₀) × (writtenAt (at + i) (replicate (len - i) value) area ≡ writtenAt at (replicate len value) area₀)

@@ -4,10 +4,6 @@ use Rattle.mem_flash.proofs.Runs.{cut-write, on-write}
 use borrow.Author.Needs.{needs}
 use Rattle.mem_flash.proofs.write.Statement.{statement}
 use Rattle.mem_flash.proofs.write.Tie as tie
-use Rattle.mem_flash.proofs.write.Reads as reads
-use Rattle.mem_flash.proofs.write.Lts as lts
-use Rattle.mem_flash.proofs.least.Reads as least-reads
-use Rattle.mem_flash.proofs.program.Reads as program-reads
 
 -- src/lib.rt:83:9
 returns : tie.Need-returns

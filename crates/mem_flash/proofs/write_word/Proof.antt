@@ -4,10 +4,6 @@ use Rattle.mem_flash.proofs.Runs.{cut-write, on-write}
 use borrow.Author.Needs.{needs}
 use Rattle.mem_flash.proofs.write_word.Statement.{statement}
 use Rattle.mem_flash.proofs.write_word.Tie as tie
-use Rattle.mem_flash.proofs.write_word.Reads as reads
-use Rattle.mem_flash.proofs.write_word.Lts as lts
-use Rattle.mem_flash.proofs.least.Reads as least-reads
-use Rattle.mem_flash.proofs.program_word.Reads as program-word-reads
 
 -- src/lib.rt:97:9
 returns : tie.Need-returns
