@@ -17,17 +17,15 @@ unfoldable pub chunked : ℕ → ℕ → ℕ → ℕ → List ℕ → List ℕ �
 chunked zero at from b source xs = xs
 chunked (suc n) at from b source xs = chunked n (at + b) (from + b) b source (writtenAt at (take b (drop from source)) xs)
 
-pub beside-chunked : (at n b : ℕ) (source xs : List ℕ) → at + n ≤ length xs → (j p from : ℕ) (ys : List ℕ) → at ≤ p
-    → p + j * b ≤ at + n
+pub beside-chunked : {at n : ℕ} {xs ys : List ℕ} (j p from b : ℕ) (source : List ℕ) → at ≤ p → p + j * b ≤ at + n → at + n ≤ length xs
     → Beside at n xs ys → Beside at n xs (chunked j p from b source ys)
 unfolding chunked
-beside-chunked at n b source xs fit zero p from ys lo hi h = h
-beside-chunked at n b source xs fit (suc j) p from ys lo hi h =
+beside-chunked zero p from b source lo hi fit h = h
+beside-chunked {at} {n} {xs} (suc j) p from b source lo hi fit h =
     let bs : List ℕ = take b (drop from source) in
     let l : length bs ≤ b = simp length-take (min-le-left b (length (drop from source))) in
     let m : p + (j * b + b) ≤ at + n = rw suc-mul at hi in
-    beside-chunked at n b source xs fit j (p + b) (from + b) (writtenAt p bs ys) (omega arith) (omega arith)
-    (beside-written at n p bs xs ys lo (omega arith) fit h)
+    beside-chunked j (p + b) (from + b) b source (omega arith) (omega arith) fit (beside-written p bs lo (omega arith) fit h)
 
 -- on an erased stretch the chunks leave the source's bytes
 chunked-erased : (n at from b : ℕ) (source before behind : List ℕ) → length before ≡ at → Bytes source
@@ -59,12 +57,12 @@ chunked-erased (suc n) at from b source before behind e h fit =
     ∙ ap (λ (k : ℕ). take k (drop from source)) (sym c)))
 
 -- a page erased and filled in chunks holds the source's page, whatever it held
-pub page-filled : (n at from b p : ℕ) (source xs ys : List ℕ) → n * b ≡ p → Bytes source → from + p ≤ length source
+pub page-filled : {at p : ℕ} {xs ys : List ℕ} (n from b : ℕ) (source : List ℕ) → n * b ≡ p → Bytes source → from + p ≤ length source
     → at + p ≤ length xs
     → Beside at p xs ys
     → chunked n at from b source (erasedAt at p ys) ≡ take at xs ++ (take p (drop from source) ++ drop (at + p) xs)
-page-filled n at from b p source xs ys e h hs ht near =
-    ap (chunked n at from b source) (erased-beside at p xs ys ht near ∙ erased-within at p xs ht)
+page-filled {at} {p} {xs} n from b source e h hs ht near =
+    ap (chunked n at from b source) (erased-beside ht near ∙ erased-within at p xs ht)
     ∙ subst
     (λ (z : ℕ). chunked n at from b source (take at xs ++ (replicate z erased ++ drop (at + p) xs))
     ≡ take at xs ++ (take z (drop from source) ++ drop (at + p) xs))

@@ -78,16 +78,16 @@ module _ (unit : ℕ) (a : Area) (from n : ℕ) where
   erase-whole whole xs f = erase-units xs f ∙ ap (λ (k : ℕ). placed a (erasedAt from k xs) f) whole
 
   -- cut inside, it has touched nothing but the stretch
-  pub erase-held : (base xs : List ℕ) (f : Flash) → from + n ≤ length base → Beside from n base xs → (k : ℕ) → k < n / unit
+  pub erase-held : {base xs : List ℕ} (f : Flash) → from + n ≤ length base → Beside from n base xs → (k : ℕ) → k < n / unit
       → Held from n a base f (after k (eraseOps unit a from n) (placed a xs f))
   unfolding eraseOps
-  erase-held base xs f fit b k h =
+  erase-held {base} {xs} f fit b k h =
       let few : k ≤ n / unit = omega arith in
       record {
         held = erasedAt from (k * unit) xs;
         same = units-part unit a k (n / unit) from xs f h;
         beside =
-            beside-erased from n from (k * unit) base xs (omega arith)
+            beside-erased from (k * unit) (omega arith)
             (omega (arith, mul-le-mul-right unit few, div-mul-le-self n unit)) fit b;
       }
 

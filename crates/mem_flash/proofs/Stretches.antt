@@ -123,18 +123,18 @@ pub record Beside (at n : ℕ) (xs ys : List ℕ) : Type 0 where
   pub behind : drop (at + n) ys ≡ drop (at + n) xs
   pub size : length ys ≡ length xs
 
-pub beside-refl : (at n : ℕ) (xs : List ℕ) → Beside at n xs xs
-beside-refl at n xs = record { before = refl; behind = refl; size = refl }
+pub beside-refl : {at n : ℕ} {xs : List ℕ} → Beside at n xs xs
+beside-refl = record { before = refl; behind = refl; size = refl }
 
 -- bytes put in the place of as many
 splice : ℕ → List ℕ → List ℕ → List ℕ
 splice p mid ys = take p ys ++ (mid ++ drop (p + length mid) ys)
 
 -- whatever is put inside the stretch
-beside-splice : (at n p : ℕ) (mid xs ys : List ℕ) → at ≤ p → p + length mid ≤ at + n → at + n ≤ length xs → Beside at n xs ys
+beside-splice : {at n : ℕ} {xs ys : List ℕ} (p : ℕ) (mid : List ℕ) → at ≤ p → p + length mid ≤ at + n → at + n ≤ length xs → Beside at n xs ys
     → Beside at n xs (splice p mid ys)
 unfolding splice
-beside-splice at n p mid xs ys lo hi fit b =
+beside-splice {at} {n} {xs} {ys} p mid lo hi fit b =
     let s : length ys ≡ length xs = b .size in
     let lp : length (take p ys) ≡ p = length-take-le p ys (omega arith) in
     let m : ℕ = length mid in
@@ -153,20 +153,20 @@ beside-splice at n p mid xs ys lo hi fit b =
       size = simp (length-append, length-drop) (omega arith);
     }
 
-pub beside-erased : (at n p m : ℕ) (xs ys : List ℕ) → at ≤ p → p + m ≤ at + n → at + n ≤ length xs → Beside at n xs ys
+pub beside-erased : {at n : ℕ} {xs ys : List ℕ} (p m : ℕ) → at ≤ p → p + m ≤ at + n → at + n ≤ length xs → Beside at n xs ys
     → Beside at n xs (erasedAt p m ys)
 unfolding splice
-beside-erased at n p m xs ys lo hi fit b =
+beside-erased {at} {n} {xs} {ys} p m lo hi fit b =
     let s : length ys ≡ length xs = b .size in
     let l : length (replicate m erased) ≡ m = length-replicate m erased in
     subst (λ (zs : List ℕ). Beside at n xs zs)
     (ap (λ (k : ℕ). take p ys ++ (replicate m erased ++ drop (p + k) ys)) l ∙ sym (erased-within p m ys (omega arith)))
-    (beside-splice at n p (replicate m erased) xs ys lo (omega arith) fit b)
+    (beside-splice p (replicate m erased) lo (omega arith) fit b)
 
-pub beside-written : (at n p : ℕ) (bs xs ys : List ℕ) → at ≤ p → p + length bs ≤ at + n → at + n ≤ length xs → Beside at n xs ys
+pub beside-written : {at n : ℕ} {xs ys : List ℕ} (p : ℕ) (bs : List ℕ) → at ≤ p → p + length bs ≤ at + n → at + n ≤ length xs → Beside at n xs ys
     → Beside at n xs (writtenAt p bs ys)
 unfolding splice writtenAt
-beside-written at n p bs xs ys lo hi fit b =
+beside-written {at} {n} {xs} {ys} p bs lo hi fit b =
     let s : length ys ≡ length xs = b .size in
     let mid : List ℕ = program (take (length bs) (drop p ys)) bs in
     let l : length mid ≡ length bs =
@@ -176,11 +176,11 @@ beside-written at n p bs xs ys lo hi fit b =
     (ap (λ (k : ℕ). take p ys ++ (mid ++ drop (p + k) ys)) l
     ∙ ap (λ (r : List ℕ). take p ys ++ r)
     (ap (λ (r : List ℕ). mid ++ r) (sym (drop-drop (length bs) p ys)) ∙ sym (program-split (drop p ys) bs)))
-    (beside-splice at n p mid xs ys lo (omega arith) fit b)
+    (beside-splice p mid lo (omega arith) fit b)
 
 -- an erase of the whole stretch forgets what it held
-pub erased-beside : (at n : ℕ) (xs ys : List ℕ) → at + n ≤ length xs → Beside at n xs ys → erasedAt at n ys ≡ erasedAt at n xs
-erased-beside at n xs ys fit b =
+pub erased-beside : {at n : ℕ} {xs ys : List ℕ} → at + n ≤ length xs → Beside at n xs ys → erasedAt at n ys ≡ erasedAt at n xs
+erased-beside {at} {n} {xs} {ys} fit b =
     let s : length ys ≡ length xs = b .size in
     erased-within at n ys (omega arith)
     ∙ ap₂ (λ (l r : List ℕ). l ++ (replicate n erased ++ r)) (b .before) (b .behind)

@@ -59,7 +59,7 @@ module _ (g : Geometry) (f : Flash) (m : Marked g f) (none : pageCount g f ≡ 0
   unfolding stateUnits
   count =
       ap length
-      (wants-revert g (pageCount g f) (stateBytes g f) 0 f (start-reads g f m) (omega (arith, none))
+      (wants-revert (start-reads g f m) (omega (arith, none))
       ∙ ap (λ (os : List Op). os ++ finishOps g f) (copies-past g f (pageCount g f) 0 (2 * pageCount g f) (omega (arith, none))))
       ∙ finish-count g f
 

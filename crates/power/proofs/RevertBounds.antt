@@ -50,7 +50,7 @@ module _ (g : Geometry) (f : Flash) (m : Marked g f) (R : List ℕ)
   nearer-kept : 2 + S / g .es ≤ dearerCost g → (now : Flash) (was : ℕ) → Nearer now was → (k : ℕ) → k < length (bootOps g now)
       → Kept Nearer (after k (bootOps g now) now) k (dearerCost g) was
   nearer-kept enough now was on k short =
-      let o = dearer g Back now _ k (on .0) (revert-kept course-back now (on .0) (on .1) k short) in
+      let o = dearer g now (revert-kept course-back (on .1) k short) in
       record {
         rest = o .rest - 1;
         inv = (o .rest, o .inv, omega arith);
@@ -58,7 +58,7 @@ module _ (g : Geometry) (f : Flash) (m : Marked g f) (R : List ℕ)
       }
     where
       go : (l : ℕ) → l < on .0 → dearerCost g ≤ k → Dec (on .0 ≤ 1) → l - 1 < was
-      go l less x (yes e) = absurd (omega (arith, last-most course-back now (on .0) (on .1) e))
+      go l less x (yes e) = absurd (omega (arith, last-most course-back (on .1) e))
       go l less x (no e) = omega (arith, lt-of-not-le e, on .2)
 
   nearer-left : 2 + S / g .es ≤ dearerCost g → (ks : List ℕ) → AllCut g ks (swapTable g f)
@@ -84,18 +84,18 @@ module _ (g : Geometry) (f : Flash) (m : Marked g f) (R : List ℕ)
     back-gains =
         subst (λ (x : Flash). nextCost g now ≤ k → readState (g .ws) (x .state) ≡ Swap
         → progress (g .ws) (now .state) < progress (g .ws) (x .state)) (sym (ran-after g k now (l .admits)))
-        (revert-gains course-back now (l .rest) (l .inv) k short few)
+        (revert-gains course-back (l .inv) k short few)
 
     pub back-stays : k < nextCost g now → progress (g .ws) (ran g k now .state) ≡ progress (g .ws) (now .state)
     back-stays less =
         ap (λ (x : Flash). progress (g .ws) (x .state)) (ran-after g k now (l .admits))
-        ∙ revert-stays course-back now (l .rest) (l .inv) k short few less
+        ∙ revert-stays course-back (l .inv) k short few less
 
   pub back-never : 1 ≤ N → (ks : List ℕ) → AllBelow (stepCost g dfu) ks
       → AllCut g ks (swapTable g f) × (progress (g .ws) (runs g ks (swapTable g f) .state) ≡ 2 * N)
   back-never more ks few =
       let o = runs-stuck g Here (stepCost g dfu)
-      (λ now on k less. revert-stay course-back now (stepsBack g f) on (omega (arith, revert-count N 0 (2 * N))) k
+      (λ now on k less. revert-stay course-back on (omega (arith, revert-count N 0 (2 * N))) k
       (rw (even-cost g now N (at now on)) less)) ks (swapTable g f) (admits-swapped g f m R same) (from-table g f m R same) few in
       (o .0, at (runs g ks (swapTable g f)) (o .1))
     where
@@ -103,7 +103,7 @@ module _ (g : Geometry) (f : Flash) (m : Marked g f) (R : List ℕ)
       Here now = OnWay g N S (revertEnd g f R) now (2 * N) (revertFrom N 0 (2 * N)) (stepsBack g f)
 
       at : (now : Flash) → Here now → progress (g .ws) (now .state) ≡ 2 * N
-      at now on = omega (arith, revert-at course-back now (stepsBack g f) on, revert-count N 0 (2 * N))
+      at now on = omega (arith, revert-at course-back on, revert-count N 0 (2 * N))
 
   pub revert-sooner : (ks : List ℕ) → 2 + stateUnits g f ≤ dearerCost g → AllAtLeast (dearerCost g) ks → AllCut g ks (swapTable g f)
       → length ks < 2 * N + 1

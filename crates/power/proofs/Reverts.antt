@@ -106,7 +106,7 @@ module _ (g : Geometry) (f : Flash) (m : Marked g f) (R : List ℕ)
   from-table = here (swapTable g f) way-back (close-refl g (revertFrom N 0 (2 * N)) (swapTable g f))
 
   pub swapped-size : length (swapTable g f .state) ≡ length (f .state)
-  swapped-size = on-stage g N S (revertEnd g f R) (swapTable g f) from-table .reads .sized ∙ sym (s .state)
+  swapped-size = on-stage from-table .reads .sized ∙ sym (s .state)
 
   pub admits-swapped : Admits g (swapTable g f)
   unfolding swapTable newDfu
@@ -118,7 +118,7 @@ module _ (g : Geometry) (f : Flash) (m : Marked g f) (R : List ℕ)
   pub back-left : (ks : List ℕ) → AllCut g ks (swapTable g f)
       → KeptAll g Back (runs g ks (swapTable g f)) ks (dearerCost g) (suc (stepsBack g f))
   back-left ks cuts =
-      runs-left g Back (dearerCost g) (λ now was on k short. dearer g Back now _ k was (revert-kept course now was on k short))
+      runs-left g Back (dearerCost g) (λ now was on k short. dearer g now (revert-kept course on k short))
       ks (swapTable g f) (suc (stepsBack g f)) admits-swapped (copying from-table) cuts
 
   abbrev gone : ℕ → Flash
@@ -138,7 +138,7 @@ module _ (g : Geometry) (f : Flash) (m : Marked g f) (R : List ℕ)
   place-one k now m a on c =
       subst (λ (x : Flash). LastCut g (S / g .es) gone (λ (r : ℕ). k + r ≡ length (bootOps g now)) x)
       (sym (ran-after g k now a))
-      (revert-place course now m on k (cut-short g k now a c))
+      (revert-place course on k (cut-short g k now a c))
 
   place : (ks : List ℕ) (now : Flash) (m : ℕ) → Admits g now → Back now m → readState (g .ws) (now .state) ≡ Swap
       → AllCut g ks now → LastCut g (S / g .es) gone (λ (r : ℕ). Short r g ks now) (runs g ks now)
@@ -146,7 +146,7 @@ module _ (g : Geometry) (f : Flash) (m : Marked g f) (R : List ℕ)
   place [] now m a on swap cuts = inr (λ r one most e. e, swap)
   place (k ∷ []) now m a on swap cuts = place-one k now m a on (cuts .0)
   place (k ∷ j ∷ ks) now m a on swap cuts =
-      let o = revert-kept course now m on k (cut-short g k now a (cuts .0)) in
+      let o = revert-kept course on k (cut-short g k now a (cuts .0)) in
       place (j ∷ ks) (ran g k now) (o .rest) (admits-ran g k now a)
       (subst (λ (x : Flash). Back x (o .rest)) (sym (ran-after g k now a)) (o .inv))
       (next (place-one k now m a on (cuts .0))) (cuts .1)
@@ -166,7 +166,7 @@ module _ (g : Geometry) (f : Flash) (m : Marked g f) (R : List ℕ)
       (go (place ks (swapTable g f) (suc (stepsBack g f)) admits-swapped (copying from-table) swap (w .cuts)))
     where
       swap : readState (g .ws) (swapTable g f .state) ≡ Swap
-      swap = on-stage g N S (revertEnd g f R) (swapTable g f) from-table .reads .swap
+      swap = on-stage from-table .reads .swap
 
       l : KeptAll g Back (runs g ks (swapTable g f)) ks (dearerCost g) (suc (stepsBack g f))
       l = back-left ks (w .cuts)
@@ -186,12 +186,12 @@ module _ (g : Geometry) (f : Flash) (m : Marked g f) (R : List ℕ)
             p .2,
             p .3,
             subst (Rests g ks k (swapTable g f)) (parts j)
-                (rests-at g ks k (swapTable g f) (l .admits) long (gone j) (p .4) (gone-idle course j one most)
+                (rests-at (l .admits) long (p .4) (gone-idle course j one most)
                 (gone-boot course j one most)),
           )
       go (inr p) =
           inl (
             p .0,
-            ends-at g ks k (swapTable g f) (l .admits) long Swap _ (p .1)
-                (revert-done course (runs g ks (swapTable g f)) (l .rest) (l .inv) (p .1) k long),
+            ends-at (l .admits) long (p .1)
+                (revert-done course (l .inv) (p .1) k long),
           )

@@ -63,12 +63,12 @@ module _ (g : Geometry) (k : ℕ) (f : Flash) (a : Admits g f) where
   answer-done h = report-done (prepareBoot g f) k a h
 
 -- a run that is not cut, in the words of the statement
-module _ (g : Geometry) (ks : List ℕ) (k : ℕ) (f : Flash) (a : Admits g (runs g ks f))
+module _ {g : Geometry} {ks : List ℕ} {k : ℕ} {f : Flash} (a : Admits g (runs g ks f))
     (long : length (bootOps g (runs g ks f)) ≤ k) where
-  pub ends-at : (s : State) (h : Flash) → readState (g .ws) (runs g ks f .state) ≡ s
+  pub ends-at : {s : State} {h : Flash} → readState (g .ws) (runs g ks f .state) ≡ s
       → after k (bootOps g (runs g ks f)) (runs g ks f) ≡ h
       → Ends g ks k f s h
-  ends-at s h e d =
+  ends-at e d =
       let r = answer-done g k (runs g ks f) a long in
       record {
         number = ap (λ (t : Report). t .number) r;
@@ -76,8 +76,8 @@ module _ (g : Geometry) (ks : List ℕ) (k : ℕ) (f : Flash) (a : Admits g (run
         flash = ran-after g k (runs g ks f) a ∙ d;
       }
 
-  pub rests-at : (h : Flash) → runs g ks f ≡ h → bootOps g h ≡ [] → readState (g .ws) (h .state) ≡ Boot → Rests g ks k f h
-  rests-at h e none boot =
+  pub rests-at : {h : Flash} → runs g ks f ≡ h → bootOps g h ≡ [] → readState (g .ws) (h .state) ≡ Boot → Rests g ks k f h
+  rests-at e none boot =
       let n : bootOps g (runs g ks f) ≡ [] = ap (bootOps g) e ∙ none in
       record {
         reached = e;
@@ -92,9 +92,9 @@ module _ (g : Geometry) (ks : List ℕ) (k : ℕ) (f : Flash) (a : Admits g (run
 -- ---- any number of cut runs
 
 -- the dearer step's cost pays for the next step
-pub dearer : (g : Geometry) (Inv : Flash → ℕ → Type 0) (now next : Flash) (k was : ℕ) → Kept Inv next k (nextCost g now) was
+pub dearer : {Inv : Flash → ℕ → Type 0} {next : Flash} {k was : ℕ} (g : Geometry) (now : Flash) → Kept Inv next k (nextCost g now) was
     → Kept Inv next k (dearerCost g) was
-dearer g Inv now next k was o =
+dearer g now o =
     record { rest = o .rest; inv = o .inv; gain = λ x. o .gain (omega (arith, next-dearer g now)) }
 
 -- and so do any number of them

@@ -164,7 +164,7 @@ module _ (g : Geometry) (f : Flash) (a : Admits g f) where
         let n : length (swapFrom N 0) ≡ 2 * N = swap-count N 0 in
         let p = row-passed g (whole-page ad) (swapFrom N 0) 0 f (swap-row N 0) zero-le (omega (arith, enough)) in
         let d : bootOps g f ≡ copiesOps g (swapFrom N 0) f =
-        wants-swap g N (length (f .state)) (progress (g .ws) (f .state)) f reads h in
+        wants-swap reads h in
         subst (λ (os : List Op). Past (g .ws) (f .state) (applyAll os f .state) (2 * N)) (sym d)
         (record { same = p .same; size = p .size; past = omega (arith, p .past) })
 
@@ -176,7 +176,7 @@ module _ (g : Geometry) (f : Flash) (a : Admits g f) where
         let n : ℕ = length (f .state) in
         let x : Flash = applyAll copies f in
         let d : bootOps g f ≡ copies ++ closeOps g n =
-        wants-revert g N n (progress (g .ws) (f .state)) f reads h
+        wants-revert reads h
         ∙ ap (λ (os : List Op). copies ++ os) (finish-close g f n refl) in
         ap (λ (os : List Op). readState (g .ws) (applyAll os f .state)) d
         ∙ ap (λ (y : Flash). readState (g .ws) (y .state))

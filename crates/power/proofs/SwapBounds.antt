@@ -10,7 +10,7 @@ use Rattle.mem_flash.specs.Flash.{dfu, Flash, after}
 use Rattle.rules.specs.StateArea.{progress}
 use Rattle.rules.specs.Steps.{swapFrom, pageCount}
 use Rattle.rules.specs.Boot.{bootOps}
-use Rattle.rules.specs.Power.{swapTable, stepCost, dearerCost, nextCost}
+use Rattle.rules.specs.Power.{stepCost, dearerCost, nextCost}
 use Rattle.way.proofs.Tables.{swap-count}
 use Rattle.way.proofs.Swapped.{swap-kept, swap-stay, swap-at}
 use Rattle.way.proofs.Costs.{even-cost}
@@ -37,33 +37,33 @@ module _ (g : Geometry) (f : Flash) (m : Marked g f) (more : 1 ≤ pageCount g f
     l = swap-left g f m more ks cuts
 
     before : progress (g .ws) (runs g ks f .state) + l .rest ≡ 2 * N
-    before = swap-at g (start-sized g f m .whole) N S (swapTable g f) (runs g ks f) (l .rest) (l .inv)
+    before = swap-at (l .inv)
 
     behind : (rest : ℕ) → There g f m (after k (bootOps g (runs g ks f)) (runs g ks f)) rest
         → progress (g .ws) (ran g k (runs g ks f) .state) + rest ≡ 2 * N
     behind rest on =
         ap (λ (x : Flash). progress (g .ws) (x .state) + rest) (ran-after g k (runs g ks f) (l .admits))
-        ∙ swap-at g (start-sized g f m .whole) N S (swapTable g f) (after k (bootOps g (runs g ks f)) (runs g ks f)) rest on
+        ∙ swap-at on
 
     pub swap-gains : nextCost g (runs g ks f) ≤ k
         → progress (g .ws) (runs g ks f .state) < progress (g .ws) (ran g k (runs g ks f) .state)
     swap-gains h =
-        let o = swap-kept g (start-sized g f m .whole) N S (swapTable g f) (runs g ks f) (l .rest) (l .inv) k
+        let o = swap-kept (l .inv) (start-sized g f m .whole) k
         (cut-short g k (runs g ks f) (l .admits) c) in
         omega (arith, before, behind (o .rest) (o .inv), o .gain h)
 
     pub swap-stays : k < nextCost g (runs g ks f)
         → progress (g .ws) (ran g k (runs g ks f) .state) ≡ progress (g .ws) (runs g ks f .state)
     swap-stays h =
-        let o = swap-stay g (start-sized g f m .whole) N S (swapTable g f) (runs g ks f) (l .rest) (l .inv) k h in
+        let o = swap-stay (l .inv) (start-sized g f m .whole) k h in
         omega (arith, before, behind (l .rest) (o .1))
 
   pub swap-never : (ks : List ℕ) → AllBelow (stepCost g dfu) ks → AllCut g ks f × (progress (g .ws) (runs g ks f .state) ≡ 0)
   swap-never ks few =
       let o = runs-stuck g (λ (x : Flash). There g f m x (length (swapFrom N 0))) (stepCost g dfu)
-      (λ now on k less. swap-stay g (start-sized g f m .whole) N S (swapTable g f) now (length (swapFrom N 0)) on k
+      (λ now on k less. swap-stay on (start-sized g f m .whole) k
       (rw (even-cost g now 0 (at now on)) less)) ks f (m .admitted) (from-start g f m more) few in
       (o .0, at (runs g ks f) (o .1))
     where
       at : (now : Flash) → There g f m now (length (swapFrom N 0)) → progress (g .ws) (now .state) ≡ 0
-      at now on = omega (arith, swap-at g (start-sized g f m .whole) N S (swapTable g f) now (length (swapFrom N 0)) on, swap-count N 0)
+      at now on = omega (arith, swap-at on, swap-count N 0)

@@ -21,7 +21,7 @@ module _ (g : Geometry) (f : Flash) (m : Marked g f) where
 
   -- on the way of the swap, with so many steps left
   abbrev pub There : Flash → ℕ → Type 0
-  There = Swapping g (start-sized g f m .whole) N (stateBytes g f) (swapTable g f)
+  There = Swapping g N (stateBytes g f) (swapTable g f)
 
   pub from-start : 1 ≤ N → There f (length (swapFrom N 0))
   from-start more = (here f (way-there g f m) (close-refl g (swapFrom N 0) f), omega (arith, swap-count N 0))
@@ -29,13 +29,13 @@ module _ (g : Geometry) (f : Flash) (m : Marked g f) where
   pub swap-left : 1 ≤ N → (ks : List ℕ) → AllCut g ks f → KeptAll g There (runs g ks f) ks (dearerCost g) (length (swapFrom N 0))
   swap-left more ks cuts =
       runs-left g There (dearerCost g)
-      (λ now was on k short. dearer g There now _ k was (swap-kept g (start-sized g f m .whole) N (stateBytes g f) (swapTable g f) now was on k short))
+      (λ now was on k short. dearer g now (swap-kept on (start-sized g f m .whole) k short))
       ks f (length (swapFrom N 0)) (m .admitted) (from-start more) cuts
 
   pub swaps : 1 ≤ N → (ks : List ℕ) (k : ℕ) → FirstWhole g ks k f → Ends g ks k f Swap (swapTable g f)
   swaps more ks k w =
       let l = swap-left more ks (w .cuts) in
       let long = whole-long g k (runs g ks f) (l .admits) (w .whole) in
-      ends-at g ks k f (l .admits) long Swap (swapTable g f)
-      (swap-reads g (start-sized g f m .whole) N (stateBytes g f) (swapTable g f) (runs g ks f) (l .rest) (l .inv))
-      (swap-done g (start-sized g f m .whole) N (stateBytes g f) (swapTable g f) (runs g ks f) (l .rest) (l .inv) k long)
+      ends-at (l .admits) long
+      (swap-reads (l .inv))
+      (swap-done (l .inv) (start-sized g f m .whole) k long)

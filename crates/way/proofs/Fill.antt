@@ -54,37 +54,50 @@ fill-placed unit p b at from a source ys f units =
     ∙ ap (applyAll (chunkOps (p / b) a at from b source)) (erase-whole unit a at p units ys f)
     ∙ chunks-placed (p / b) a at from b source (erasedAt at p ys) f
 
-module _ (unit p b at from : ℕ) (a : Area) (source base ys : List ℕ) (f : Flash)
-    (units : p / unit * unit ≡ p) (whole : p / b * b ≡ p) (fit : at + p ≤ length base) (near : Beside at p base ys) where
+-- it counts an operation for each unit and each chunk
+pub fill-count : (unit p b at from : ℕ) (source : List ℕ) (a : Area) → length (fillOps unit p b at from source a) ≡ p / unit + p / b
+unfolding fillOps
+fill-count unit p b at from source a =
+    omega (
+      arith,
+      length-append (eraseOps unit a at p) (chunkOps (p / b) a at from b source),
+      erase-count unit a at p,
+      chunks-count (p / b) a at from b source,
+    )
+
+-- a page of p bytes at `at`, in whole units and whole chunks, of an area that held base and now holds ys, which may differ there
+pub record Fillable (unit p b at : ℕ) (base ys : List ℕ) : Type 0 where
+  pub units : p / unit * unit ≡ p
+  pub chunks : p / b * b ≡ p
+  pub inside : at + p ≤ length base
+  pub beside : Beside at p base ys
+
+module _ {unit p b at : ℕ} {base ys : List ℕ} (r : Fillable unit p b at base ys) (from : ℕ) (source : List ℕ) (a : Area)
+    (f : Flash) where
   abbrev erases : List Op
   erases = eraseOps unit a at p
 
   abbrev chunks : List Op
   chunks = chunkOps (p / b) a at from b source
 
-  pub fill-count : length (fillOps unit p b at from source a) ≡ p / unit + p / b
-  unfolding fillOps
-  fill-count = omega (arith, length-append erases chunks, erase-count unit a at p, chunks-count (p / b) a at from b source)
-
   pub fill-whole : Bytes source → from + p ≤ length source
       → applyAll (fillOps unit p b at from source a) (placed a ys f)
       ≡ placed a (take at base ++ (take p (drop from source) ++ drop (at + p) base)) f
   fill-whole bytes inside =
-      fill-placed unit p b at from a source ys f units
-      ∙ ap (λ (l : List ℕ). placed a l f) (page-filled (p / b) at from b p source base ys whole bytes inside fit near)
+      fill-placed unit p b at from a source ys f (r .units)
+      ∙ ap (λ (l : List ℕ). placed a l f) (page-filled (p / b) from b source (r .chunks) bytes inside (r .inside) (r .beside))
 
   -- the erase, and then some chunks, touch nothing but the page
   chunks-beside : (j : ℕ) → j ≤ p / b → Beside at p base (chunked j at from b source (erasedAt at p ys))
   chunks-beside j l =
-      beside-chunked at p b source base fit j at from (erasedAt at p ys) (omega arith)
-      (omega (arith, mul-le-mul-right b l, whole))
-      (beside-erased at p at p base ys (omega arith) (omega arith) fit near)
+      beside-chunked j at from b source (omega arith) (omega (arith, mul-le-mul-right b l, r .chunks)) (r .inside)
+      (beside-erased at p (omega arith) (omega arith) (r .inside) (r .beside))
 
   pub fill-held : Held at p a base f (applyAll (fillOps unit p b at from source a) (placed a ys f))
   fill-held =
       record {
         held = chunked (p / b) at from b source (erasedAt at p ys);
-        same = fill-placed unit p b at from a source ys f units;
+        same = fill-placed unit p b at from a source ys f (r .units);
         beside = chunks-beside (p / b) (omega arith);
       }
 
@@ -96,7 +109,7 @@ module _ (unit p b at from : ℕ) (a : Area) (source base ys : List ℕ) (f : Fl
       go : Dec (length erases ≤ k) → Held at p a base f (after k (erases ++ chunks) (placed a ys f))
       go (no h) =
           subst (λ (x : Flash). Held at p a base f x) (sym (after-within k erases chunks (placed a ys f) (lt-of-not-le h)))
-          (erase-held unit a at p base ys f fit near k (omega (arith, lt-of-not-le h, erase-count unit a at p)))
+          (erase-held unit a at p f (r .inside) (r .beside) k (omega (arith, lt-of-not-le h, erase-count unit a at p)))
       go (yes h) =
           let j : ℕ = k - length erases in
           let l : j < p / b = omega (arith, erase-count unit a at p) in
@@ -104,7 +117,7 @@ module _ (unit p b at from : ℕ) (a : Area) (source base ys : List ℕ) (f : Fl
             held = chunked j at from b source (erasedAt at p ys);
             same =
                 after-behind k erases chunks (placed a ys f) h
-                ∙ ap (after j chunks) (erase-whole unit a at p units ys f)
+                ∙ ap (after j chunks) (erase-whole unit a at p (r .units) ys f)
                 ∙ chunks-part j (p / b) a at from b source (erasedAt at p ys) f l;
             beside = chunks-beside j (omega arith);
           }

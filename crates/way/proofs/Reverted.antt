@@ -227,7 +227,7 @@ module _ {g : Geometry} {N t : ℕ} {A R : List ℕ} {f₀ : Flash} (course : Co
 
   void-wants : bootOps g void ≡ closeOps g S
   void-wants =
-      wants-revert g N S (2 + (4 * N + (t - 4 * N)) - 3) void void-reads (omega arith)
+      wants-revert void-reads (omega arith)
       ∙ ap₂ (λ (l r : List Op). l ++ r) (copies-past g void N 0 (2 * N) (omega (arith, void-reads .done)))
       (finish-close g void S (void-reads .sized))
 
@@ -240,7 +240,7 @@ module _ {g : Geometry} {N t : ℕ} {A R : List ℕ} {f₀ : Flash} (course : Co
 
   -- ---- steps are left
 
-  module _ (now : Flash) (rest : ℕ) (on : OnWay g N S h now (2 * N) (revertFrom N 0 (2 * N)) rest) where
+  module _ {now : Flash} {rest : ℕ} (on : OnWay g N S h now (2 * N) (revertFrom N 0 (2 * N)) rest) where
     abbrev cs : List Copy
     cs = revertFrom N 0 (2 * N)
 
@@ -248,11 +248,11 @@ module _ {g : Geometry} {N t : ℕ} {A R : List ℕ} {f₀ : Flash} (course : Co
     steps = copiesOps g cs now
 
     found : Stage g N S now (2 * N) (length cs) rest
-    found = on-stage g N S h now on
+    found = on-stage on
 
     copy-wants : bootOps g now ≡ steps ++ closeOps g S
     copy-wants =
-        wants-revert g N S (found .at) now (found .reads) (found .past)
+        wants-revert (found .reads) (found .past)
         ∙ ap (λ (l : List Op). steps ++ l) (finish-close g now S (found .reads .sized))
 
     -- where no step is left, none is wanted
@@ -262,7 +262,7 @@ module _ {g : Geometry} {N t : ℕ} {A R : List ℕ} {f₀ : Flash} (course : Co
 
     copy-run : (k : ℕ) → Turned now (suc rest) k (bootOps g now)
     copy-run k =
-        subst (λ (os : List Op). Turned now (suc rest) k os) (sym copy-wants) (go (run-on g (course .whole) N S h now on k))
+        subst (λ (os : List Op). Turned now (suc rest) k os) (sym copy-wants) (go (run-on (course .whole) on k))
       where
         some : nextCost g now ≤ k → k < length steps + 2 → Dec (1 ≤ rest) → 1 < suc rest
         some x y (yes z) = omega arith
@@ -281,7 +281,7 @@ module _ {g : Geometry} {N t : ℕ} {A R : List ℕ} {f₀ : Flash} (course : Co
             (inr (
               λ r one most q. omega (arith, c, length-append steps (closeOps g S), close-count g S),
               ap (λ (x : Flash). readState (g .ws) (x .state)) at
-                  ∙ on-stage g N S h (after k steps now) o .reads .swap,
+                  ∙ on-stage o .reads .swap,
             ))
 
     -- below the next step's cost a run is cut, and gains no step
@@ -289,7 +289,7 @@ module _ {g : Geometry} {N t : ℕ} {A R : List ℕ} {f₀ : Flash} (course : Co
         → (k < length (bootOps g now)) × OnWay g N S h (after k (bootOps g now) now) (2 * N) cs rest
     revert-stay some k few =
         subst (λ (os : List Op). (k < length os) × OnWay g N S h (after k os now) (2 * N) cs rest) (sym copy-wants)
-        (go (run-on g (course .whole) N S h now on k))
+        (go (run-on (course .whole) on k))
       where
         go : Went g N S h (2 * N) cs rest now k steps
             → (k < length (steps ++ closeOps g S)) × OnWay g N S h (after k (steps ++ closeOps g S) now) (2 * N) cs rest
@@ -306,14 +306,14 @@ module _ {g : Geometry} {N t : ℕ} {A R : List ℕ} {f₀ : Flash} (course : Co
 
   -- ---- a run
 
-  revert-run : (now : Flash) (m : ℕ) → Turning now m → (k : ℕ) → Turned now m k (bootOps g now)
-  revert-run now m (copying {rest = rest} on) k = copy-run now rest on k
-  revert-run now m (voided e) k = subst (λ (x : Flash). Turned x 1 k (bootOps g x)) (sym e) (void-run k)
-  revert-run now m (emptied j one most e) k = idle j one most e (ap (bootOps g) e ∙ gone-idle j one most)
+  revert-run : {now : Flash} {m : ℕ} → Turning now m → (k : ℕ) → Turned now m k (bootOps g now)
+  revert-run (copying on) k = copy-run on k
+  revert-run (voided e) k = subst (λ (x : Flash). Turned x 1 k (bootOps g x)) (sym e) (void-run k)
+  revert-run (emptied j one most e) k = idle j one most e (ap (bootOps g) e ∙ gone-idle j one most)
 
-  pub revert-kept : (now : Flash) (m : ℕ) → Turning now m → (k : ℕ) → k < length (bootOps g now)
+  pub revert-kept : {now : Flash} {m : ℕ} → Turning now m → (k : ℕ) → k < length (bootOps g now)
       → Kept Turning (after k (bootOps g now) now) k (nextCost g now) m
-  revert-kept now m on k short = go (revert-run now m on k)
+  revert-kept {now} {m} on k short = go (revert-run on k)
     where
       go : Turned now m k (bootOps g now) → Kept Turning (after k (bootOps g now) now) k (nextCost g now) m
       go (ends l d s) = absurd (not-le-of-lt short l)
@@ -321,25 +321,25 @@ module _ {g : Geometry} {N t : ℕ} {A R : List ℕ} {f₀ : Flash} (course : Co
       go (cut l c gain o w) = record { rest = l; inv = o; gain = gain }
 
   -- all steps are done where only the end is left and nothing is erased
-  past-steps : (x : Flash) (m : ℕ) → Turning x m → m ≤ 1 → readState (g .ws) (x .state) ≡ Swap → 4 * N ≤ progress (g .ws) (x .state)
-  past-steps x m (copying {rest = rest} on) less swap = omega (arith, revert-at x rest on)
-  past-steps x m (voided e) less swap = rw e (omega (arith, void-reads .done, course .room))
-  past-steps x m (emptied j one most e) less swap = absurd (not-gone x j one most e swap)
+  past-steps : {x : Flash} {m : ℕ} → Turning x m → m ≤ 1 → readState (g .ws) (x .state) ≡ Swap → 4 * N ≤ progress (g .ws) (x .state)
+  past-steps (copying on) less swap = omega (arith, revert-at on)
+  past-steps (voided e) less swap = rw e (omega (arith, void-reads .done, course .room))
+  past-steps {x} (emptied j one most e) less swap = absurd (not-gone x j one most e swap)
 
   -- where steps are left: the progress is below 4N, and something is wanted
-  steps-left : (now : Flash) (m : ℕ) → Turning now m → 0 < length (bootOps g now) → progress (g .ws) (now .state) < 4 * N
+  steps-left : {now : Flash} {m : ℕ} → Turning now m → 0 < length (bootOps g now) → progress (g .ws) (now .state) < 4 * N
       → (rest : ℕ) × (m ≡ suc rest) × OnWay g N S h now (2 * N) (revertFrom N 0 (2 * N)) rest
-  steps-left now m (copying {rest = rest} on) wanted few = (rest, refl, on)
-  steps-left now m (voided e) wanted few =
+  steps-left (copying {rest = rest} on) wanted few = (rest, refl, on)
+  steps-left (voided e) wanted few =
       absurd
       (omega (
         arith,
-        past-steps now 1 (voided e) (omega arith) (ap (λ (x : Flash). readState (g .ws) (x .state)) e ∙ void-reads .swap),
+        past-steps (voided e) (omega arith) (ap (λ (x : Flash). readState (g .ws) (x .state)) e ∙ void-reads .swap),
       ))
-  steps-left now m (emptied j one most e) wanted few = absurd (omega (arith, ap length (ap (bootOps g) e ∙ gone-idle j one most)))
+  steps-left (emptied j one most e) wanted few = absurd (omega (arith, ap length (ap (bootOps g) e ∙ gone-idle j one most)))
 
   -- a run that is cut there gains a step if it has the next step's cost, and none if not
-  module _ (now : Flash) (m : ℕ) (on : Turning now m) (k : ℕ) (short : k < length (bootOps g now))
+  module _ {now : Flash} {m : ℕ} (on : Turning now m) (k : ℕ) (short : k < length (bootOps g now))
       (few : progress (g .ws) (now .state) < 4 * N) where
     abbrev next : Flash
     next = after k (bootOps g now) now
@@ -347,40 +347,40 @@ module _ {g : Geometry} {N t : ℕ} {A R : List ℕ} {f₀ : Flash} (course : Co
     pub revert-gains : nextCost g now ≤ k → readState (g .ws) (next .state) ≡ Swap
         → progress (g .ws) (now .state) < progress (g .ws) (next .state)
     revert-gains paid swap =
-        let o = revert-kept now m on k short in
-        let left = steps-left now m on (omega arith) few in
+        let o = revert-kept on k short in
+        let left = steps-left on (omega arith) few in
         go (left .0) (left .2) (o .rest) (o .inv) (omega (arith, o .gain paid, left .1))
       where
         go : (rest : ℕ) → OnWay g N S h now (2 * N) (revertFrom N 0 (2 * N)) rest → (l : ℕ) → Turning next l → l < suc rest
             → progress (g .ws) (now .state) < progress (g .ws) (next .state)
-        go rest o l (copying {rest = fewer} o′) less = omega (arith, revert-at now rest o, revert-at next fewer o′)
-        go rest o l (voided e) less = omega (arith, past-steps next 1 (voided e) (omega arith) swap)
+        go rest o l (copying o′) less = omega (arith, revert-at o, revert-at o′)
+        go rest o l (voided e) less = omega (arith, past-steps {x = next} (voided e) (omega arith) swap)
         go rest o l (emptied j one most e) less = absurd (not-gone next j one most e swap)
 
     pub revert-stays : k < nextCost g now → progress (g .ws) (next .state) ≡ progress (g .ws) (now .state)
     revert-stays less =
-        let left = steps-left now m on (omega arith) few in
-        let here = revert-at now (left .0) (left .2) in
-        let o = revert-stay now (left .0) (left .2) (omega (arith, here)) k less in
-        omega (arith, here, revert-at next (left .0) (o .1))
+        let left = steps-left on (omega arith) few in
+        let here = revert-at (left .2) in
+        let o = revert-stay (left .2) (omega (arith, here)) k less in
+        omega (arith, here, revert-at (o .1))
 
   -- where only the end is left, it is all that is wanted
-  pub last-most : (now : Flash) (m : ℕ) → Turning now m → m ≤ 1 → length (bootOps g now) ≤ 2 + U
-  last-most now m (copying {rest = rest} on) e =
+  pub last-most : {now : Flash} {m : ℕ} → Turning now m → m ≤ 1 → length (bootOps g now) ≤ 2 + U
+  last-most {now} (copying on) e =
       omega (
         arith,
-        ap length (copy-wants now rest on),
+        ap length (copy-wants on),
         length-append (copiesOps g (revertFrom N 0 (2 * N)) now) (closeOps g S),
         close-count g S,
         ap length
-            (no-steps now rest on (omega arith)),
+            (no-steps on (omega arith)),
       )
-  last-most now m (voided q) e = omega (arith, ap length (ap (bootOps g) q ∙ void-wants), close-count g S)
-  last-most now m (emptied j one most q) e = omega (arith, ap length (ap (bootOps g) q ∙ gone-idle j one most))
+  last-most (voided q) e = omega (arith, ap length (ap (bootOps g) q ∙ void-wants), close-count g S)
+  last-most (emptied j one most q) e = omega (arith, ap length (ap (bootOps g) q ∙ gone-idle j one most))
 
-  pub revert-place : (now : Flash) (m : ℕ) → Turning now m → (k : ℕ) → k < length (bootOps g now)
+  pub revert-place : {now : Flash} {m : ℕ} → Turning now m → (k : ℕ) → k < length (bootOps g now)
       → LastCut g U gone (λ (r : ℕ). k + r ≡ length (bootOps g now)) (after k (bootOps g now) now)
-  revert-place now m on k short = go (revert-run now m on k)
+  revert-place {now} {m} on k short = go (revert-run on k)
     where
       go : Turned now m k (bootOps g now)
           → LastCut g U gone (λ (r : ℕ). k + r ≡ length (bootOps g now)) (after k (bootOps g now) now)
@@ -389,9 +389,9 @@ module _ {g : Geometry} {N t : ℕ} {A R : List ℕ} {f₀ : Flash} (course : Co
       go (cut l c gain o w) = w
 
   -- a run that is not cut leaves the images, from a state area that reads Swap or from one with erased units
-  pub revert-done : (now : Flash) (m : ℕ) → Turning now m → readState (g .ws) (now .state) ≡ Swap → (k : ℕ)
+  pub revert-done : {now : Flash} {m : ℕ} → Turning now m → readState (g .ws) (now .state) ≡ Swap → (k : ℕ)
       → length (bootOps g now) ≤ k → after k (bootOps g now) now ≡ done
-  revert-done now m on swap k long = go (revert-run now m on k)
+  revert-done {now} {m} on swap k long = go (revert-run on k)
     where
       go : Turned now m k (bootOps g now) → after k (bootOps g now) now ≡ done
       go (ends l d s) = after-all k (bootOps g now) now long ∙ d

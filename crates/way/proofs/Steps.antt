@@ -22,7 +22,7 @@ use Rattle.mem_flash.proofs.Erases.{Held}
 use Rattle.rules.specs.StateArea.{markOp}
 use Rattle.rules.specs.Steps.{Copy, sourceOf, unitOf, fillOps, copyOps}
 use Rattle.rules.specs.Power.{pageAt, withPage}
-use Rattle.way.proofs.Fill.{fill-count, fill-whole, fill-held, fill-cut-held}
+use Rattle.way.proofs.Fill.{fill-count, fill-whole, fill-held, fill-cut-held, Fillable}
 
 -- ---- a step
 
@@ -64,7 +64,7 @@ near-refl g c f =
     record {
       held = areaOf (c .to) f;
       same = sym (placed-same (c .to) f);
-      beside = beside-refl (c .target * page g) (page g) (areaOf (c .to) f);
+      beside = beside-refl;
     }
 
 -- the source of a step is another area than its target
@@ -78,8 +78,7 @@ source-placed state xs f i = absurd i
 abbrev filling : Geometry → Copy → List ℕ → List Op
 filling g c source = fillOps (unitOf g (c .to)) (page g) (g .b) (c .target * page g) (c .source * page g) source (c .to)
 
-module _ (g : Geometry) (whole : Whole g) (c : Copy) (f : Flash) (fits : Fits g c f) (now : Flash)
-    (near : Near g c f now) where
+module _ {g : Geometry} {c : Copy} {f now : Flash} (whole : Whole g) (fits : Fits g c f) (near : Near g c f now) where
   abbrev markOps : List Op
   markOps = markOp (g .ws) (c .mark) ∷ []
 
@@ -97,29 +96,27 @@ module _ (g : Geometry) (whole : Whole g) (c : Copy) (f : Flash) (fits : Fits g 
   abbrev start : Flash
   start = placed (c .to) (near .held) f
 
+  fillable : Fillable (unitOf g (c .to)) (page g) (g .b) (c .target * page g) (areaOf (c .to) f) (near .held)
+  fillable =
+      record {
+        units = whole .units (c .to) (fits .image);
+        chunks = whole .chunks;
+        inside = fits .inside-target;
+        beside = near .beside;
+      }
+
   fills-whole : applyAll fills start
       ≡ placed (c .to) (withPage (page g) (c .target) (pageAt (page g) (c .source) (sourceOf (c .to) f)) (areaOf (c .to) f)) f
   unfolding withPage pageAt
-  fills-whole =
-      fill-whole (unitOf g (c .to)) (page g) (g .b) (c .target * page g) (c .source * page g) (c .to) (sourceOf (c .to) f)
-      (areaOf (c .to) f) (near .held) f (whole .units (c .to) (fits .image)) (whole .chunks) (fits .inside-target) (near .beside)
-      (fits .bytes) (fits .inside-source)
-
-  fills-count : length fills ≡ page g / unitOf g (c .to) + page g / g .b
-  fills-count =
-      fill-count (unitOf g (c .to)) (page g) (g .b) (c .target * page g) (c .source * page g) (c .to) (sourceOf (c .to) f)
-      (areaOf (c .to) f) (near .held) f (whole .units (c .to) (fits .image)) (whole .chunks) (fits .inside-target) (near .beside)
+  fills-whole = fill-whole fillable (c .source * page g) (sourceOf (c .to) f) (c .to) f (fits .bytes) (fits .inside-source)
 
   fills-near : Near g c f (applyAll fills start)
-  fills-near =
-      fill-held (unitOf g (c .to)) (page g) (g .b) (c .target * page g) (c .source * page g) (c .to) (sourceOf (c .to) f)
-      (areaOf (c .to) f) (near .held) f (whole .units (c .to) (fits .image)) (whole .chunks) (fits .inside-target) (near .beside)
+  fills-near = fill-held fillable (c .source * page g) (sourceOf (c .to) f) (c .to) f
 
   fills-cut : (k : ℕ) → k < length fills → Near g c f (after k fills start)
   fills-cut k h =
-      fill-cut-held (unitOf g (c .to)) (page g) (g .b) (c .target * page g) (c .source * page g) (c .to) (sourceOf (c .to) f)
-      (areaOf (c .to) f) (near .held) f (whole .units (c .to) (fits .image)) (whole .chunks) (fits .inside-target) (near .beside)
-      k (omega (arith, h, fills-count))
+      fill-cut-held fillable (c .source * page g) (sourceOf (c .to) f) (c .to) f k
+      (omega (arith, h, fill-count (unitOf g (c .to)) (page g) (g .b) (c .target * page g) (c .source * page g) (sourceOf (c .to) f) (c .to)))
 
   -- done from a flash that is near f, the step leaves what it leaves from f
   pub step-whole : applyAll (copyOps g c now) now ≡ stepped g c f

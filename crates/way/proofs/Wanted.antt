@@ -34,7 +34,7 @@ module _ (g : Geometry) (f : Flash) where
       ap (λ (s : State). bootOpsIn s g f) e
       ∙ ap (λ (b : Bool). pick b (renewOps (g .es) (g .ws) (length (f .state)) (magic Boot)) (swapOrRevertOps g f)) c
 
-module _ (g : Geometry) (N S n : ℕ) (f : Flash) (r : Reads g N S n f) where
+module _ {g : Geometry} {N S n : ℕ} {f : Flash} (r : Reads g N S n f) where
   boot-in : bootOps g f ≡ swapOrRevertOps g f
   unfolding bootOps bootOpsIn pick
   boot-in =

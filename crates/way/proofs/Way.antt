@@ -57,10 +57,10 @@ close-refl g [] f = refl
 close-refl g (c ∷ cs) f = near-refl g c f
 
 -- a boot reads the same at a flash that is near
-near-reads : (g : Geometry) (N S m : ℕ) (c : Copy) (f now : Flash) → Image (c .to) → Near g c f now → Reads g N S m f
+near-reads : {g : Geometry} {N S m : ℕ} {f : Flash} (c : Copy) (now : Flash) → Image (c .to) → Near g c f now → Reads g N S m f
     → Reads g N S m now
 unfolding pageCount pages
-near-reads g N S m c f now i near r =
+near-reads {g} {N} {f = f} c now i near r =
     let st : now .state ≡ f .state = ap (λ (x : Flash). x .state) (near .same) ∙ state-placed (c .to) (near .held) f i in
     let ln : length (now .active) ≡ length (f .active) =
     ap (λ (x : Flash). length (x .active)) (near .same) ∙ active-placed (c .to) (near .held) f (near .beside .size) in
@@ -75,7 +75,7 @@ near-reads g N S m c f now i near r =
 close-reads : (g : Geometry) (N S m : ℕ) (f : Flash) (cs : List Copy) (h now : Flash) → Way g N S m f cs h → Close g cs f now
     → Reads g N S m now
 close-reads g N S m f [] h now w e = subst (Reads g N S m) (sym e) (w .0)
-close-reads g N S m f (c ∷ cs) h now w near = near-reads g N S m c f now (w .1 .fits .image) near (w .1 .reads)
+close-reads g N S m f (c ∷ cs) h now w near = near-reads c now (w .1 .fits .image) near (w .1 .reads)
 
 -- now lies on the way of the list's steps to h, with so many steps left
 pub data OnWay (g : Geometry) (N S : ℕ) (h now : Flash) : ℕ → List Copy → ℕ → Type 0 where
@@ -89,12 +89,12 @@ pub record Stage (g : Geometry) (N S : ℕ) (now : Flash) (m all rest : ℕ) : T
   pub sum : at + rest ≡ m + all
   pub past : m ≤ at
 
-pub on-stage : (g : Geometry) (N S : ℕ) (h now : Flash) {m rest : ℕ} {cs : List Copy} → OnWay g N S h now m cs rest
+pub on-stage : {g : Geometry} {N S : ℕ} {h now : Flash} {m rest : ℕ} {cs : List Copy} → OnWay g N S h now m cs rest
     → Stage g N S now m (length cs) rest
-on-stage g N S h now (here {m = m} {cs = cs} f w close) =
+on-stage {g} {N} {S} {h} {now} (here {m = m} {cs = cs} f w close) =
     record { at = m; reads = close-reads g N S m f cs h now w close; sum = refl; past = omega arith }
-on-stage g N S h now (there e on) =
-    let r = on-stage g N S h now on in
+on-stage (there e on) =
+    let r = on-stage on in
     record { at = r .at; reads = r .reads; sum = omega (arith, r .sum); past = omega (arith, r .past) }
 
 -- the end of the way lies on it
@@ -137,17 +137,16 @@ went-there e (through l d still) = through l d still
 went-there e (stopped rest l p b gain still on) = stopped rest l p b gain still (there e on)
 
 -- a step done, then a run of the rest
-went-past : (g : Geometry) (N S : ℕ) (h : Flash) (m : ℕ) (c : Copy) (cs : List Copy) (r : ℕ) (now next : Flash) (j : ℕ)
-    (os ps : List Op)
+went-past : {g : Geometry} {N S m r j : ℕ} {h next : Flash} {c : Copy} {cs : List Copy} {ps : List Op} (now : Flash) (os : List Op)
     → c .mark ≡ m → length os ≡ nextCost g now → applyAll os now ≡ next → Went g N S h (suc m) cs r next j ps
     → Went g N S h m (c ∷ cs) (suc r) now (length os + j) (os ++ ps)
-went-past g N S h m c cs r now next j os ps e n d (through l t still) =
+went-past {ps = ps} now os e n d (through l t still) =
     through (omega (arith, length-append os ps)) (apply-append os ps now ∙ ap (applyAll ps) d ∙ t) (λ x. absurd (omega arith))
-went-past g N S h m c cs r now next j os ps e n d (stopped rest l p b gain still on) =
+went-past {g} {N} {S} {m} {j = j} {h} {cs = cs} {ps = ps} now os e n d (stopped rest l p b gain still on) =
     stopped rest (omega (arith, length-append os ps)) p (omega arith) (λ x. omega arith) (λ x. absurd (omega arith))
     (there e (subst (λ (x : Flash). OnWay g N S h x (suc m) cs rest) (sym (after-past j os ps now ∙ ap (after j ps) d)) on))
 
-module _ (g : Geometry) (whole : Whole g) (N S : ℕ) (h : Flash) where
+module _ {g : Geometry} (whole : Whole g) {N S : ℕ} {h : Flash} where
   run-here : (cs : List Copy) (m : ℕ) (f now : Flash) → Way g N S m f cs h → Close g cs f now → (k : ℕ)
       → Went g N S h m cs (length cs) now k (copiesOps g cs now)
   unfolding copiesOps applyAll
@@ -169,10 +168,10 @@ module _ (g : Geometry) (whole : Whole g) (N S : ℕ) (h : Flash) where
       first = copyOps g c now
 
       leads : applyAll first now ≡ next
-      leads = step-whole g whole c f (leg .fits) now near ∙ leg .leads
+      leads = step-whole whole (leg .fits) near ∙ leg .leads
 
       done : progress (g .ws) (now .state) ≡ m
-      done = near-reads g N S m c f now (leg .fits .image) near (leg .reads) .done
+      done = near-reads c now (leg .fits .image) near (leg .reads) .done
 
       cost : length first ≡ nextCost g now
       cost = next-count g m c now (leg .target) done
@@ -188,23 +187,22 @@ module _ (g : Geometry) (whole : Whole g) (N S : ℕ) (h : Flash) where
           let j : ℕ = k - length first in
           let e : length first + j ≡ k = omega arith in
           subst (λ (z : ℕ). Went g N S h m (c ∷ cs) (suc (length cs)) now z (first ++ copiesOps g cs next)) e
-          (went-past g N S h m c cs (length cs) now next j first (copiesOps g cs next) (leg .number) cost leads
-          (rest j))
+          (went-past now first (leg .number) cost leads (rest j))
       go (no l) rest =
           let short : k < length first = lt-of-not-le l in
           stopped (suc (length cs)) (omega (arith, length-append first (copiesOps g cs next))) (omega arith) (omega arith)
           (λ x. absurd (omega (arith, cost))) (λ x. refl)
           (here f w
           (subst (λ (x : Flash). Near g c f x) (sym (after-within k first (copiesOps g cs next) now short))
-          (step-cut-near g whole c f (leg .fits) now near k short)))
+          (step-cut-near whole (leg .fits) near k short)))
 
-  pub run-on : (now : Flash) {m rest : ℕ} {cs : List Copy} → OnWay g N S h now m cs rest → (k : ℕ)
+  pub run-on : {now : Flash} {m rest : ℕ} {cs : List Copy} → OnWay g N S h now m cs rest → (k : ℕ)
       → Went g N S h m cs rest now k (copiesOps g cs now)
-  run-on now (here {m = m} {cs = cs} f w close) k = run-here cs m f now w close k
-  run-on now (there {m = m} {rest = rest} {c = c} {cs = cs} e on) k =
+  run-on {now} (here {m = m} {cs = cs} f w close) k = run-here cs m f now w close k
+  run-on {now} (there {m = m} {rest = rest} {c = c} {cs = cs} e on) k =
       subst (λ (os : List Op). Went g N S h m (c ∷ cs) rest now k os)
-      (sym (copies-skip g c cs now (let r = on-stage g N S h now on in omega (arith, r .past, r .reads .done))))
-      (went-there e (run-on now on k))
+      (sym (copies-skip g c cs now (let r = on-stage on in omega (arith, r .past, r .reads .done))))
+      (went-there e (run-on on k))
 
 -- ---- what one cut run keeps
 
