@@ -16,15 +16,12 @@ use Rattle.way.proofs.Swapped.{swap-kept, swap-stay, swap-at}
 use Rattle.way.proofs.Costs.{even-cost}
 use Rattle.power.specs.Power.{Marked, ran, Cut, runs, AllCut, AllBelow, AllAtLeast}
 use Rattle.power.proofs.Runs.{ran-after, cut-short, KeptAll, runs-stuck}
-use Rattle.power.proofs.Start.{stateBytes, start-sized}
+use Rattle.power.proofs.Start.{start-sized}
 use Rattle.power.proofs.Swaps.{There, from-start, swap-left}
 
 module _ (g : Geometry) (f : Flash) (m : Marked g f) (more : 1 ≤ pageCount g f) where
   abbrev N : ℕ
   N = pageCount g f
-
-  abbrev S : ℕ
-  S = stateBytes g f
 
   pub swap-soon : (ks : List ℕ) → AllAtLeast (dearerCost g) ks → AllCut g ks f → length ks < 2 * N
   swap-soon ks many cuts =

@@ -1,5 +1,5 @@
 -- A page filled, from a page that may hold anything: erased unit by unit, then written in chunks. Done whole it holds the source's
--- page; cut anywhere, nothing but the page is touched. Serves `power`, and what a step does in every other theorem. Assumes nothing.
+-- page; cut anywhere, nothing but the page is touched. Serves `power` and `settles`. Assumes nothing.
 use mathlib.Core.Path.{_≡_, refl, sym, ap, _∙_, subst}
 use mathlib.Core.List.{List, _++_}
 use Prim.Native.Nat.{ℕ, zero, suc, _+_, _-_, _*_, _/_, _≤_, _<_}

@@ -1,5 +1,6 @@
 -- One step of a swap or of a revert, from a flash whose target page may hold anything: done whole it leaves what it always
--- leaves, and cut anywhere it has touched that page alone. Serves `power`. Assumes nothing.
+-- leaves, and cut anywhere it has touched that page alone. Serves `power`; `Whole` also `settles`. Assumes
+-- nothing.
 use mathlib.Core.Path.{_≡_, refl, sym, ap, _∙_, subst, ap₂}
 use mathlib.Core.List.{List, [], _∷_, _++_}
 use Prim.Native.Nat.{ℕ, _+_, _*_, _/_, _≤_, _<_}

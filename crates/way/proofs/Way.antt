@@ -1,5 +1,6 @@
 -- A list of steps, cut anywhere: one law, `run-on`, for the swap and the revert. It says where a run that is cut leaves the
--- flash, where one that is not cut does, and how many steps were gained. Serves `power`. Assumes nothing.
+-- flash, where one that is not cut does, and how many steps were gained. Serves `power`; steps that are
+-- passed over also `settles`. Assumes nothing.
 use mathlib.Core.Path.{_≡_, refl, sym, ap, _∙_, subst}
 use mathlib.Core.Bool.{false}
 use mathlib.Core.List.{List, [], _∷_, _++_}
