@@ -1,0 +1,137 @@
+-- Demand 3 of the boots made (specs/Cycles): by the theorem `power` alone. Assumes nothing.
+use mathlib.Core.Path.{_≡_, refl, sym, ap, _∙_, subst}
+use mathlib.Core.Logic.{_⊎_, inl, inr}
+use mathlib.Core.Option.{some}
+use mathlib.Core.List.{List, [], _∷_}
+use Prim.Native.Nat.{ℕ, zero, suc, _+_, _-_, _*_, _/_, _≤_, _<_}
+use native.Mathlib.Nat.{div-mul-le-self, mul-le-mul-right}
+use native.Mathlib.Decide.{decLe}
+use native.Mathlib.Omega.{arith}
+use lib.ListN.{length, take, getD, replicate, length-append, length-replicate}
+use lib.Seq.{length-take-le}
+use Rattle.state.specs.declared.State.the-variants.{Boot, Swap}
+use Rattle.geometry.specs.declared.Geometry.{Geometry}
+use Rattle.geometry.specs.Geometry.{pages, words}
+use Rattle.geometry.specs.Refusals.{bootWords}
+use Rattle.geometry.proofs.Rows.{admitted}
+use Rattle.mem_flash.specs.Flash.{Flash}
+use Rattle.rules.specs.declared.Answer.{Answer}
+use Rattle.rules.specs.Steps.{pageCount}
+use Rattle.rules.specs.Calls.{Report, reported}
+use Rattle.rules.specs.Boot.{prepareBoot}
+use Rattle.rules.specs.Power.{swapMarks, swapTable, revertImages, reverted, revertedPart, stateUnits, dearerCost}
+use Rattle.power.specs.Power.{Ready, ran, runs, AllCut, FirstWhole, Short, InErase, AllAtLeast, Power}
+use Rattle.power.proofs.Proved.{power}
+use Rattle.power_cycles.specs.Cycles.{Whole, Made, SwapOf, Reverted, AtLatest, Cycles}
+use Rattle.power_cycles.proofs.Made.{all-cut, First, found}
+
+-- ---- how soon
+
+taken : (m n : ℕ) (ks : List ℕ) → AllAtLeast m ks → AllAtLeast m (take n ks)
+unfolding AllAtLeast
+taken m zero ks a = tt
+taken m (suc n) [] a = tt
+taken m (suc n) (k ∷ ks) a = (a .0, taken m n ks (a .1))
+
+soon : {g : Geometry} {ks : List ℕ} {f f′ : Flash} {n : ℕ} {r : Answer} (m : ℕ)
+    → ((js : List ℕ) → AllAtLeast (dearerCost g) js → AllCut g js f → length js < m)
+    → Made g ks f f′ n r → Whole r ⊎ (n ≡ length ks) → AllAtLeast (dearerCost g) ks → AtLatest m ks n r
+soon {g} {ks} {f} {n = n} {r} m few made stops many =
+    record {
+      most =
+          omega (
+            arith,
+            length-take-le (n - 1) ks (omega (arith, made .budgets)),
+            few (take (n - 1) ks) (taken (dearerCost g) (n - 1) ks many) (made .cuts),
+          );
+      comes = λ enough c. stopped enough c (few (take n ks) (taken (dearerCost g) n ks many) (all-cut made c)) stops;
+    }
+  where
+    stopped : m ≤ length ks → reported r .number ≡ 7 → length (take n ks) < m → Whole r ⊎ (n ≡ length ks) → ⊥
+    stopped enough c less (inl w) = w c
+    stopped enough c less (inr e) = omega (arith, length-take-le n ks (made .budgets))
+
+-- ---- the revert
+
+-- whether the last cut left at least 1 and at most u operations
+AtMost : ℕ → Geometry → List ℕ → Flash → Type 0
+AtMost u g ks f = (r : ℕ) × (1 ≤ r) × (r ≤ u) × Short r g ks f
+
+at-most : (u : ℕ) (g : Geometry) (ks : List ℕ) (f : Flash) → Dec (AtMost u g ks f)
+unfolding AtMost Short
+at-most u g [] f = no (λ s. s .3)
+at-most u g (k ∷ []) f = go (decLe (k + 1) n) (decLe n (k + u))
+  where
+    n : ℕ
+    n = length (prepareBoot g f .ops)
+
+    go : Dec (k + 1 ≤ n) → Dec (n ≤ k + u) → Dec ((r : ℕ) × (1 ≤ r) × (r ≤ u) × (k + r ≡ n))
+    go (yes a) (yes b) = yes (n - k, omega arith, omega arith, omega arith)
+    go (no a) b = no (λ s. a (omega (arith, s .1, s .3)))
+    go (yes a) (no b) = no (λ s. b (omega (arith, s .2, s .3)))
+at-most u g (k ∷ j ∷ ks) f = at-most u g (j ∷ ks) (ran g k f)
+
+-- the swap table's state area is as long as before
+marks-length : (ws count n : ℕ) → (2 + 2 * count) * ws ≤ n → length (swapMarks ws count n) ≡ n
+unfolding swapMarks
+marks-length ws count n h = simp (length-append, length-replicate) (omega arith)
+
+module _ (g : Geometry) (f : Flash) (ready : Ready g f) where
+  same-units : stateUnits g (swapTable g f) ≡ stateUnits g f
+  unfolding stateUnits swapTable pageCount words bootWords
+  same-units =
+      let a = admitted g _ _ _ (ready .marked .admitted) in
+      let N : ℕ = pages g (length (f .active)) in
+      let enough : (2 + 2 * N) * g .ws ≤ length (f .state) / g .ws * g .ws = mul-le-mul-right (g .ws) (omega (arith, a .state-words)) in
+      ap (λ (n : ℕ). n / g .es) (marks-length (g .ws) N (length (f .state)) (omega (arith, enough, div-mul-le-self (length (f .state)) (g .ws))))
+
+  p : Power g f
+  p = power g f ready
+
+  module _ {f′ : Flash} {r : Answer} (l : First g (swapTable g f) f′ r) where
+    images : {h : Flash} → f′ ≡ h → h .active ≡ f .active → h .dfu ≡ reverted g f .dfu
+        → ((f′ .state ≡ reverted g f .state) × (reported r .state ≡ some Swap))
+        ⊎ ((u : ℕ) × (1 ≤ u) × (u ≤ stateUnits g f) × (f′ .state ≡ revertedPart g u f .state) × (reported r .state ≡ some Boot))
+        → Reverted g f f′ r
+    images e a d s =
+        record { active = ap (λ (x : Flash). x .active) e ∙ a; dfu = ap (λ (x : Flash). x .dfu) e ∙ d; state = s }
+
+    reverts-at : Dec (AtMost (stateUnits g f) g (l .cut) (swapTable g f)) → Reverted g f f′ r
+    unfolding AtMost InErase reverted revertedPart revertImages
+    reverts-at (yes s) =
+        let e = p .rests _ _ (s .0) (l .first) (s .1) (s .2) (s .3) in
+        let left = l .leaves ∙ e .flash in
+        images left refl refl
+        (inr (
+          stateUnits g f + 1 - s .0,
+          omega (arith, s .2),
+          omega (arith, s .1),
+          ap (λ (x : Flash). x .state) left,
+          ap (λ (t : Report). t .state) (l .told ∙ e .answers),
+        ))
+    reverts-at (no s) =
+        let e = p .reverts _ _ (l .first) (λ i. s (i .0, i .1, rw (sym same-units) (i .2), i .3)) in
+        let left = l .leaves ∙ e .flash in
+        images left refl refl (inl (ap (λ (x : Flash). x .state) left, ap (λ (t : Report). t .state) (l .told) ∙ e .state))
+
+-- ---- all of it
+
+pub cycles : {g : Geometry} {ks : List ℕ} {f f′ : Flash} {n : ℕ} {r : Answer} → Made g ks f f′ n r → Whole r ⊎ (n ≡ length ks)
+    → Cycles g ks f f′ n r
+cycles {g} {ks} {f} {f′} {n} {r} made stops =
+    record {
+      made = made;
+      stops = stops;
+      swaps = λ ready w.
+          let l = found made w in
+          let e = power g f ready .swaps _ _ (l .first) in
+          (l .leaves ∙ e .flash, ap (λ (t : Report). t .state) (l .told) ∙ e .state);
+      reverts = λ f₀ s w.
+          let l = found (from s) w in
+          reverts-at g f₀ (s .ready) l (at-most (stateUnits g f₀) g (l .cut) (swapTable g f₀));
+      swap-soon = λ ready. soon (2 * pageCount g f) (power g f ready .swap-soon) made stops;
+      revert-soon = λ f₀ s. soon (2 * pageCount g f₀ + 2) (power g f₀ (s .ready) .revert-soon) (from s) stops;
+    }
+  where
+    from : {f₀ : Flash} → SwapOf g f₀ f → Made g ks (swapTable g f₀) f′ n r
+    from s = subst (λ (x : Flash). Made g ks x f′ n r) (s .table) made
