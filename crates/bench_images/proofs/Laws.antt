@@ -12,16 +12,16 @@ use Rattle.geometry.specs.declared.Geometry.{Geometry}
 use Rattle.geometry.specs.declared.Verdict.{Verdict}
 use Rattle.geometry.specs.declared.Verdict.the-variants as verdicts
 use Rattle.geometry.specs.declared.Refusal.{Refusal}
+use Rattle.geometry.specs.declared.StateSizes.{StateSizes}
 use Rattle.geometry.specs.Geometry.{page}
 use Rattle.geometry.specs.Refusals.{number, verdict, bootRefusal}
-use Rattle.geometry.proofs.Tests.{page-some}
+use Rattle.geometry.proofs.Tests.{number-some, page-some}
 use Rattle.geometry.proofs.Rows.{admitted}
 use Rattle.mem_flash.specs.Run.{flash}
 use Rattle.rules.specs.declared.Answer.{Answer}
 use Rattle.rules.specs.Calls.{Did}
 use Rattle.rules.specs.Boot.{prepareBoot}
 use Rattle.rules.specs.FirmwareState.{mark}
-use Rattle.rules.proofs.Did.{number-some}
 use Rattle.lines.specs.declared.Lengths.{Lengths}
 use Rattle.lines.specs.declared.Command.{Command}
 use Rattle.lines.specs.declared.Command.the-variants.{Update, Booted, Boot}
@@ -38,18 +38,18 @@ filled-more size before i b area h e all =
 
 -- ---- the firmware state's record has the geometry's sizes
 
-module _ (g : Geometry) (es ws : ℕ) (hs : es ≡ g .es) (hw : ws ≡ g .ws) where
+module _ (g : Geometry) (z : StateSizes) (same : z ≡ g .state) where
   marked : (s : State) (k : ℕ) (a d st st′ : List ℕ) (r : Answer)
-      → Did (mark s es ws st) k (flash [] [] st) (flash [] [] st′) r → Marked s g k (flash a d st) (flash a d st′) r
-  marked s k a d st st′ r h = record { did = rw (← hs, ← hw) h; active = refl; dfu = refl }
+      → Did (mark s z st) k (flash [] [] st) (flash [] [] st′) r → Marked s g k (flash a d st) (flash a d st′) r
+  marked s k a d st st′ r h = record { did = rw (← same) h; active = refl; dfu = refl }
 
   pub obeyed-update : (command : Command) (k : ℕ) (a d st st′ : List ℕ) (r : Answer) → command ≡ Update k
-      → Did (mark state.Swap es ws st) k (flash [] [] st) (flash [] [] st′) r → Obeyed g command (flash a d st) (flash a d st′) r
+      → Did (mark state.Swap z st) k (flash [] [] st) (flash [] [] st′) r → Obeyed g command (flash a d st) (flash a d st′) r
   unfolding Obeyed
   obeyed-update command k a d st st′ r e h = rw e (marked state.Swap k a d st st′ r h)
 
   pub obeyed-booted : (command : Command) (k : ℕ) (a d st st′ : List ℕ) (r : Answer) → command ≡ Booted k
-      → Did (mark state.Boot es ws st) k (flash [] [] st) (flash [] [] st′) r → Obeyed g command (flash a d st) (flash a d st′) r
+      → Did (mark state.Boot z st) k (flash [] [] st) (flash [] [] st′) r → Obeyed g command (flash a d st) (flash a d st′) r
   unfolding Obeyed
   obeyed-booted command k a d st st′ r e h = rw e (marked state.Boot k a d st st′ r h)
 
@@ -73,7 +73,7 @@ module _ (g : Geometry) (l : Lengths) (v : Verdict) (judged : verdict v ≡ boot
     none-refused = ap verdict admits
 
     pub page-there : 0 < page g
-    page-there = page-some g (admitted g (l .active) (l .dfu) (l .state) (sym judged ∙ none-refused) .numbers)
+    page-there = page-some (admitted g (l .active) (l .dfu) (l .state) (sym judged ∙ none-refused) .numbers)
 
     pub begun-admitted : (size : ℕ) (a d a′ d′ : List ℕ) → size ≡ page g → Started size (l .active) a′ d′ → Begun g l a d a′ d′ v
     begun-admitted size a d a′ d′ e s =

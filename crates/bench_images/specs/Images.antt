@@ -36,7 +36,7 @@ pub record Begun (g : Geometry) (l : Lengths) (active dfu active′ dfu′ : Lis
 
 -- a mark changes the state area alone
 pub record Marked (s : State) (g : Geometry) (k : ℕ) (f f′ : Flash) (r : Answer) : Type 0 where
-  pub did : Did (mark s (g .es) (g .ws) (f .state)) k (flash [] [] (f .state)) (flash [] [] (f′ .state)) r
+  pub did : Did (mark s (g .state) (f .state)) k (flash [] [] (f .state)) (flash [] [] (f′ .state)) r
   pub active : f′ .active ≡ f .active
   pub dfu : f′ .dfu ≡ f .dfu
 

@@ -108,7 +108,7 @@ fn call(
     ensures { λ r. ⌜ Obeyed g command (flash (now (active .entry)) (now (dfu .entry)) (now (state .entry)))
         (flash (now (active .exit)) (now (dfu .exit)) (now (state .exit))) r ⌝ }
 {
-    let marks = BlockingFirmwareState::new(g.es, g.ws);
+    let marks = BlockingFirmwareState::new(g.state);
     match command {
         Command::Update(k) => marks.mark_updated(state, k),
         Command::Booted(k) => marks.mark_booted(state, k),

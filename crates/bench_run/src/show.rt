@@ -1,6 +1,4 @@
 // Writing: a line for each command, and the areas. What the texts are is decided in the crate `answer_text`.
-ghost use mathlib.Core.Path.{_≡_};
-ghost use Prim.Native.Nat.{min};
 use bench_images::MOST;
 use libc::STDOUT_FILENO;
 use lines::Command;
@@ -37,16 +35,10 @@ fn say_hex(bytes: &[u8]) -> bool {
     say(&out[..n])
 }
 
-fn least(a: usize, b: usize) -> usize
-    ensures { λ r. ⌜ r ≡ min a b ⌝ }
-{
-    if a < b { a } else { b }
-}
-
 fn say_bytes(bytes: &[u8]) -> bool {
     let mut i = 0;
     while i < bytes.len() {
-        let e = i + least(bytes.len() - i, 32);
+        let e = i + geometry::least(bytes.len() - i, 32);
         if !say_hex(&bytes[i..e]) {
             return false;
         }

@@ -20,6 +20,7 @@ use Rattle.state.specs.Choice.{pick}
 use Rattle.state.specs.Magic.{magic}
 use Rattle.geometry.specs.declared.Geometry.{Geometry}
 use Rattle.geometry.specs.declared.Refusal.{Refusal}
+use Rattle.geometry.specs.declared.StateSizes.{StateSizes}
 use Rattle.geometry.specs.declared.Verdict.{Verdict}
 use Rattle.geometry.specs.declared.Verdict.the-variants as verdicts
 use Rattle.geometry.specs.Geometry.{pages}
@@ -44,18 +45,18 @@ use Rattle.state_area.specs.Area.{Invalidated, Renewed}
 
 -- what is asked: whether the images are swapped already
 abbrev pub swapped : Geometry → Flash → Bool
-swapped g f = not (ltb (progress (g .ws) (f .state)) (2 * pages g (length (f .active))))
+swapped g f = not (ltb (progress (g .state) (f .state)) (2 * pages g (length (f .active))))
 
 pub boot-swap : (g : Geometry) {k : ℕ} {f f₁ : Flash} {r : Flow} {b : Bool} → b ≡ swapped g f → b ≡ false → Ran k (swapOps g f) f f₁ r
     → Ran k (swapOrRevertOps g f) f f₁ r
 unfolding swapOrRevertOps pick pageCount
 boot-swap g {f = f} asked n w =
-    let z : ltb (progress (g .ws) (f .state)) (2 * pages g (length (f .active))) ≡ true = not-false _ (sym asked ∙ n) in
+    let z : ltb (progress (g .state) (f .state)) (2 * pages g (length (f .active))) ≡ true = not-false _ (sym asked ∙ n) in
     rw z w
 
 -- the images are swapped, and the revert was run
 pub record Reverted (g : Geometry) (k : ℕ) (f f₁ : Flash) (r : Flow) : Type 0 where
-  pub swapped : ltb (progress (g .ws) (f .state)) (2 * pages g (length (f .active))) ≡ false
+  pub swapped : ltb (progress (g .state) (f .state)) (2 * pages g (length (f .active))) ≡ false
   pub ran : Ran k (revertOps g f) f f₁ r
 
 pub reverted : (g : Geometry) {k : ℕ} {f f₁ : Flash} {r : Flow} {b : Bool} → b ≡ swapped g f → b ≡ true → Ran k (revertOps g f) f f₁ r
@@ -71,37 +72,37 @@ module _ {g : Geometry} {k : ℕ} {f f₁ : Flash} {r : Flow} (w : Reverted g k 
   revert-cut o = ends (then-cut k (revertOps g f) _ _ _ r (run-of _ _ _ _ _ (w .ran)) o)
 
   -- the revert's end, from what the invalidation answers
-  module _ {l : Budget} (o : r ≡ On l) {S₂ : List ℕ} {q : Flow} (i : Invalidated (l .0) (g .ws) (f₁ .state) S₂ q) where
+  module _ {l : Budget} (o : r ≡ On l) {S₂ : List ℕ} {q : Flow} (i : Invalidated (l .0) (g .state) (f₁ .state) S₂ q) where
     finish : {f₂ : Flash} {p : Flow}
-        → run (l .0) (invalidateOp (g .ws) ∷ renewOps (g .es) (g .ws) (length (f .state)) (magic Revert)) f₁ ≡ ended f₂ p
+        → run (l .0) (invalidateOp (g .state) ∷ renewOps (g .state) (length (f .state)) (magic Revert)) f₁ ≡ ended f₂ p
         → Ran k (swapOrRevertOps g f) f f₂ p
     unfolding finishOps
     finish v = ends (then-on k (revertOps g f) _ _ _ r (run-of _ _ _ _ _ (w .ran)) l o ∙ v)
 
     pub invalid-cut : q ≡ Cut → Ran k (swapOrRevertOps g f) f (flash (f₁ .active) (f₁ .dfu) S₂) Cut
-    invalid-cut p = finish (then-cut (l .0) (invalidateOp (g .ws) ∷ []) _ _ _ q (i (f₁ .active) (f₁ .dfu)) p)
+    invalid-cut p = finish (then-cut (l .0) (invalidateOp (g .state) ∷ []) _ _ _ q (i (f₁ .active) (f₁ .dfu)) p)
 
-    pub boot-revert : {m : Budget} {S₃ : List ℕ} {p : Flow} → q ≡ On m → length S₂ ≡ length (f .state) → Renewed (m .0) (g .es) (g .ws) 0xC0 S₂ S₃ p
+    pub boot-revert : {m : Budget} {S₃ : List ℕ} {p : Flow} → q ≡ On m → length S₂ ≡ length (f .state) → Renewed (m .0) (g .state) 0xC0 S₂ S₃ p
         → Ran k (swapOrRevertOps g f) f (flash (f₁ .active) (f₁ .dfu) S₃) p
     unfolding magic
     boot-revert {m} e z v =
         finish
-        (then-on (l .0) (invalidateOp (g .ws) ∷ []) _ _ _ q (i (f₁ .active) (f₁ .dfu)) m e ∙ (rw z at (v (f₁ .active) (f₁ .dfu))))
+        (then-on (l .0) (invalidateOp (g .state) ∷ []) _ _ _ q (i (f₁ .active) (f₁ .dfu)) m e ∙ (rw z at (v (f₁ .active) (f₁ .dfu))))
 
 -- ---- a confirmation that was cut
 
 -- the three ways out of the question
-module _ (ws n : ℕ) (st : List ℕ) where
-  pub counts-still : valid ws st ≡ true → false ≡ confirming ws n st
+module _ (z : StateSizes) (n : ℕ) (st : List ℕ) where
+  pub counts-still : valid z st ≡ true → false ≡ confirming z n st
   unfolding confirming pick
   counts-still v = sym (rw v)
 
-  module _ (v : valid ws st ≡ false) (m : ℕ) (d : m ≡ marksDone ws st) where
-    pub swap-unfinished : m < 2 * n → false ≡ confirming ws n st
+  module _ (v : valid z st ≡ false) (m : ℕ) (d : m ≡ marksDone z st) where
+    pub swap-unfinished : m < 2 * n → false ≡ confirming z n st
     unfolding confirming pick
     swap-unfinished h = sym (rw (v, ← d, lt-ltb _ _ h))
 
-    pub revert-asked : 2 * n ≤ m → ltb m (4 * n) ≡ confirming ws n st
+    pub revert-asked : 2 * n ≤ m → ltb m (4 * n) ≡ confirming z n st
     unfolding confirming pick
     revert-asked h = sym (rw (v, ← d, le-ltb _ _ h))
 
@@ -110,12 +111,12 @@ pub counts-fit : (a p : ℕ) → a ≤ mostLength → (2 * (a / p) < 2 ^ 64) × 
 unfolding mostLength
 counts-fit a p h = (omega (arith, div-le-self a p), omega (arith, div-le-self a p))
 
-module _ (g : Geometry) {k : ℕ} {f : Flash} {r : Flow} {b : Bool} (asked : b ≡ confirming (g .ws) (pages g (length (f .active))) (f .state)) where
+module _ (g : Geometry) {k : ℕ} {f : Flash} {r : Flow} {b : Bool} (asked : b ≡ confirming (g .state) (pages g (length (f .active))) (f .state)) where
   pub boot-copies : {f₁ : Flash} → b ≡ false → Ran k (swapOrRevertOps g f) f f₁ r → Ran k (bootOpsIn Swap g f) f f₁ r
   unfolding bootOpsIn pick pageCount
   boot-copies n w = let z = sym asked ∙ n in rw z w
 
-  pub boot-confirms : {S₁ : List ℕ} → b ≡ true → Renewed k (g .es) (g .ws) 0xD0 (f .state) S₁ r
+  pub boot-confirms : {S₁ : List ℕ} → b ≡ true → Renewed k (g .state) 0xD0 (f .state) S₁ r
       → Ran k (bootOpsIn Swap g f) f (flash (f .active) (f .dfu) S₁) r
   unfolding bootOpsIn pick pageCount magic
   boot-confirms y w = let z = sym asked ∙ y in rw z (ran _ _ _ _ _ (w (f .active) (f .dfu)))
@@ -125,7 +126,7 @@ module _ (g : Geometry) {k : ℕ} {f : Flash} {r : Flow} {b : Bool} (asked : b �
 -- a boot that is not refused, in state s, has run
 pub record Booted (g : Geometry) (k : ℕ) (f : Flash) (s : State) (f₁ : Flash) (r : Flow) : Type 0 where
   pub admitted : bootRefusal g (length (f .active)) (length (f .dfu)) (length (f .state)) ≡ 0
-  pub found : s ≡ readState (g .ws) (f .state)
+  pub found : s ≡ readState (g .state) (f .state)
   pub ran : Ran k (bootOps g f) f f₁ r
 
 module _ (g : Geometry) (f : Flash) {v : Verdict} (judged : verdict v ≡ bootRefusal g (length (f .active)) (length (f .dfu)) (length (f .state))) where
@@ -140,7 +141,7 @@ module _ (g : Geometry) (f : Flash) {v : Verdict} (judged : verdict v ≡ bootRe
     pub boot-admits : Admitted g (length (f .active)) (length (f .dfu)) (length (f .state))
     boot-admits = admitted g _ _ _ not-refused
 
-    module _ {s : State} (found : s ≡ readState (g .ws) (f .state)) where
+    module _ {s : State} (found : s ≡ readState (g .state) (f .state)) where
       pub boot-idle : {k : ℕ} → bootOpsIn s g f ≡ [] → Did (prepareBoot g f) k f f (answers.Found s 0)
       unfolding prepareBoot bootOps
       boot-idle {k} e = did-nothing (prepareBoot g f) k f not-refused s (ap some (sym found)) (rw (← found) e)

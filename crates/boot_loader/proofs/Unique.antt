@@ -1,18 +1,24 @@
 -- Any two results that a contract of the boot loader allows for one input are equal: nothing is left open. Assumes nothing.
-use mathlib.Core.Path.{_≡_, _∙_, sym}
-use mathlib.Core.List.{List}
-use Prim.Native.Nat.{ℕ}
+use mathlib.Core.Path.{refl, sym, ap, _∙_}
+use Rattle.state.specs.OneResult.{OneResult}
 use Rattle.geometry.specs.declared.Geometry.{Geometry}
 use Rattle.mem_flash.specs.Flash.{Flash}
-use Rattle.rules.specs.declared.Answer.{Answer}
-use Rattle.rules.specs.Calls.{reported, report, Did}
-use Rattle.rules.specs.Boot.{prepareBoot, getState}
 use Rattle.rules.proofs.Unique.{unique, answer-unique}
+use Rattle.boot_loader.proofs.BootLoader.new.Kinds as new-kinds
+use Rattle.boot_loader.proofs.BootLoader.new.Reads as new
+use Rattle.boot_loader.proofs.BootLoader.prepare_boot.Kinds as prepare-boot-kinds
+use Rattle.boot_loader.proofs.BootLoader.prepare_boot.Reads as prepare-boot
+use Rattle.boot_loader.proofs.BootLoader.read_state.Kinds as read-state-kinds
+use Rattle.boot_loader.proofs.BootLoader.read_state.Reads as read-state
 
-pub prepare-boot-unique : (g : Geometry) (k : ℕ) (f f₁ f₂ : Flash) (q r : Answer) → Did (prepareBoot g f) k f f₁ q
-    → Did (prepareBoot g f) k f f₂ r → (f₁ ≡ f₂) × (q ≡ r)
-prepare-boot-unique g k f f₁ f₂ q r d e = unique (prepareBoot g f) k f f₁ f₂ q r d e
+pub new-unique : OneResult new-kinds.ps new-kinds.r new.Post
+new-unique κs a x y v w p q = (ap (λ (g : Geometry). record { geometry = g }) (p ∙ sym q), refl)
 
-pub read-state-unique : (es ws : ℕ) (st : List ℕ) (q r : Answer) → reported q ≡ report (getState es ws st) 0
-    → reported r ≡ report (getState es ws st) 0 → q ≡ r
-read-state-unique es ws st q r d e = answer-unique q r (d ∙ sym e)
+pub read-state-unique : OneResult read-state-kinds.ps read-state-kinds.r read-state.Post
+read-state-unique κs a x y v w p q = (answer-unique x y (p ∙ sym q), refl)
+
+-- the answer, and the three areas
+pub prepare-boot-unique : OneResult prepare-boot-kinds.ps prepare-boot-kinds.r prepare-boot.Post
+prepare-boot-unique κs a x y v w p q =
+    let e = unique _ _ _ _ _ x y p q in
+    (e .1, ap (λ (f : Flash). (tt, (f .active, (f .dfu, (f .state, (tt, tt)))))) (e .0))

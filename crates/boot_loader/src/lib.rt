@@ -49,7 +49,7 @@ impl BootLoader {
         if let Verdict::Refused(why) = verdict {
             return Answer::Refused(why);
         }
-        let found = state_area::read(state, g.ws as usize);
+        let found = state_area::read(state, g.state);
         let State::Swap = found else {
             return Answer::Found(found, 0);
         };
@@ -62,14 +62,14 @@ impl BootLoader {
 
     // The state that the state area holds, with the sizes of the state area alone.
     pub fn read_state(self, state: &[u8]) -> Answer
-        ensures { λ r. ⌜ reported r ≡ report (getState (self .geometry .es) (self .geometry .ws) (now (state .entry))) 0 ⌝ }
+        ensures { λ r. ⌜ reported r ≡ report (getState (self .geometry .state) (now (state .entry))) 0 ⌝ }
     {
         let g = self.geometry;
-        let verdict = geometry::state_verdict(g.es, g.ws, state.len());
+        let verdict = geometry::state_verdict(g.state, state.len());
         if let Verdict::Refused(why) = verdict {
             return Answer::Refused(why);
         }
-        Answer::Found(state_area::read(state, g.ws as usize), 0)
+        Answer::Found(state_area::read(state, g.state), 0)
     }
 
     // A confirmation that was cut is finished: the image that was booted stays, and no copy is made. The Rust knows no such case.
@@ -89,23 +89,21 @@ impl BootLoader {
         if !self.is_confirming(active, state) {
             return self.swap_or_revert(active, dfu, state, left);
         }
-        let es = self.geometry.es as usize;
-        let ws = self.geometry.ws as usize;
-        state_area::renew(state, es, ws, State::BOOT_MAGIC, left)
+        let g = self.geometry;
+        state_area::renew(state, g.state, State::BOOT_MAGIC, left)
     }
 
     // The progress does not count, and the marks are those of a finished swap and of a revert that is not finished.
     fn is_confirming(self, active: &[u8], state: &[u8]) -> bool
         requires { ⌜ (0 < page (self .geometry)) × (length (now active) ≤ mostLength) ⌝ }
-        ensures { λ r. ⌜ r ≡ confirming (self .geometry .ws) (pages (self .geometry) (length (now (active .entry)))) (now (state .entry)) ⌝ }
+        ensures { λ r. ⌜ r ≡ confirming (self .geometry .state) (pages (self .geometry) (length (now (active .entry)))) (now (state .entry)) ⌝ }
     {
         let g = self.geometry;
-        let ws = g.ws as usize;
-        if state_area::is_valid(state, ws) {
+        if state_area::is_valid(state, g.state) {
             return false;
         }
         let page_count = active.len() / g.page_size();
-        let done = state_area::marks_done(state, ws);
+        let done = state_area::marks_done(state, g.state);
         if done < 2 * page_count {
             return false;
         }
@@ -133,17 +131,15 @@ impl BootLoader {
         let Flow::On(second) = boot_steps::revert(g, active, dfu, state, left) else {
             return Flow::Cut;
         };
-        let es = g.es as usize;
-        let ws = g.ws as usize;
-        let Flow::On(third) = state_area::invalidate(state, ws, second) else {
+        let Flow::On(third) = state_area::invalidate(state, g.state, second) else {
             return Flow::Cut;
         };
-        state_area::renew(state, es, ws, State::REVERT_MAGIC, third)
+        state_area::renew(state, g.state, State::REVERT_MAGIC, third)
     }
 
     fn is_swapped(self, active: &[u8], state: &[u8]) -> bool
         requires { ⌜ 0 < page (self .geometry) ⌝ }
-        ensures { λ r. ⌜ r ≡ not (ltb (progress (self .geometry .ws) (now (state .entry))) (2 * pages (self .geometry) (length (now (active .entry))))) ⌝ }
+        ensures { λ r. ⌜ r ≡ not (ltb (progress (self .geometry .state) (now (state .entry))) (2 * pages (self .geometry) (length (now (active .entry))))) ⌝ }
     {
         let g = self.geometry;
         let page_count = active.len() / g.page_size();

@@ -23,11 +23,11 @@ fills g c f p = fillOps (unitOf g (c .to)) p (g .b) (c .target * p) (c .source *
 
 -- a step that is to run has filled its page, or was cut there
 pub record Filled (g : Geometry) (c : Copy) (f : Flash) (k : ℕ) (f₁ : Flash) (r : Flow) : Type 0 where
-  pub runs : progress (g .ws) (f .state) ≤ c .mark
+  pub runs : progress (g .state) (f .state) ≤ c .mark
   pub page : run k (fills g c f (page g)) f ≡ ended f₁ r
 
 -- the page by its size and its places as the code found them
-pub filled : (g : Geometry) (c : Copy) (f : Flash) (k : ℕ) {m p at off : ℕ} {r : Flow} (xs xs₁ : List ℕ) → m ≡ progress (g .ws) (f .state) → m ≤ c .mark
+pub filled : (g : Geometry) (c : Copy) (f : Flash) (k : ℕ) {m p at off : ℕ} {r : Flow} (xs xs₁ : List ℕ) → m ≡ progress (g .state) (f .state) → m ≤ c .mark
     → p ≡ page g → at ≡ c .target * p → off ≡ c .source * p → placed (c .to) xs f ≡ f
     → InArea k (fillOps (unitOf g (c .to)) p (g .b) at off (sourceOf (c .to) f)) xs xs₁ r → Filled g c f k (placed (c .to) xs₁ f) r
 unfolding fills
@@ -36,7 +36,7 @@ filled g c f k xs xs₁ read h e x y there w =
 
 -- ---- the three ways out of a step
 
-pub once-skip : (g : Geometry) (c : Copy) (f : Flash) (k : ℕ) {m : ℕ} → m ≡ progress (g .ws) (f .state) → c .mark < m → Ran k (onceOps g c f) f f (on k)
+pub once-skip : (g : Geometry) (c : Copy) (f : Flash) (k : ℕ) {m : ℕ} → m ≡ progress (g .state) (f .state) → c .mark < m → Ran k (onceOps g c f) f f (on k)
 unfolding onceOps pick run
 once-skip g c f k read h = let z = rw read at h in ran _ _ _ _ _ (rw (lt-leb _ _ z))
 
@@ -45,7 +45,7 @@ module _ {g : Geometry} {c : Copy} {f : Flash} {k : ℕ} {f₁ : Flash} {r : Flo
   unfolding onceOps pick copyOps fills
   once-cut o = ran _ _ _ _ _ (rw (le-leb _ _ (w .runs)) (then-cut k (fills g c f (page g)) _ f f₁ r (w .page) o))
 
-  pub once-on : {l : Budget} {Y : List ℕ} {q : Flow} → r ≡ On l → InState (l .0) (markOp (g .ws) (c .mark) ∷ []) (f₁ .state) Y q
+  pub once-on : {l : Budget} {Y : List ℕ} {q : Flow} → r ≡ On l → InState (l .0) (markOp (g .state) (c .mark) ∷ []) (f₁ .state) Y q
       → Ran k (onceOps g c f) f (flash (f₁ .active) (f₁ .dfu) Y) q
   unfolding onceOps pick copyOps fills
   once-on {l} o v =

@@ -4,6 +4,7 @@ use mathlib.Core.List.{List, [], _∷_}
 use Prim.Native.Nat.{ℕ, _+_, _*_}
 use lib.ListN.{replicate}
 use Rattle.state.specs.Magic.{marked}
+use Rattle.geometry.specs.declared.StateSizes.{StateSizes}
 use Rattle.mem_flash.specs.declared.Flow.{Flow}
 use Rattle.mem_flash.specs.Flash.{state, change}
 use Rattle.mem_flash.specs.Run.{flash, placed, InArea, writeOps}
@@ -11,7 +12,7 @@ use Rattle.rules.specs.StateArea.{markOp}
 use Rattle.state_area.specs.Area.{InState}
 
 -- the code writes a mark over its word
-pub marks : (k ws i at : ℕ) (st st′ : List ℕ) (r : Flow) → at ≡ (2 + i) * ws → InArea k (writeOps at (replicate ws 0x00)) st st′ r
-    → InState k (markOp ws i ∷ []) st st′ r
+pub marks : (k : ℕ) (z : StateSizes) (i at : ℕ) (st st′ : List ℕ) (r : Flow) → at ≡ (2 + i) * z .ws
+    → InArea k (writeOps at (replicate (z .ws) 0x00)) st st′ r → InState k (markOp z i ∷ []) st st′ r
 unfolding markOp marked placed change
-marks k ws i at st st′ r e w a d = rw (← e) (w state (flash a d st))
+marks k z i at st st′ r e w a d = rw (← e) (w state (flash a d st))

@@ -19,11 +19,11 @@ module _ {g : Geometry} {a d s : ℕ} (w : Admitted g a d s) where
 
   module _ {n : ℕ} (e : n ≡ a / page g) where
     -- the mark of step i lies within the state area
-    mark-in : (i : ℕ) → i < 4 * n → (2 + i) * g .ws + g .ws ≤ s
+    mark-in : (i : ℕ) → i < 4 * n → (2 + i) * g .state .ws + g .state .ws ≤ s
     unfolding bootWords pages words
     mark-in i h =
-        let m : (3 + i) * g .ws ≤ s / g .ws * g .ws = mul-le-mul-right (g .ws) (omega (arith, w .state-words, e)) in
-        omega (arith, div-mul-le-self s (g .ws))
+        let m : (3 + i) * g .state .ws ≤ s / g .state .ws * g .state .ws = mul-le-mul-right (g .state .ws) (omega (arith, w .state-words, e)) in
+        omega (arith, div-mul-le-self s (g .state .ws))
 
     -- k pages of active, which are no more than it has
     pages-in : (k : ℕ) → k ≤ n → k * page g ≤ a
@@ -66,5 +66,5 @@ module _ {g : Geometry} {i from m to n s : ℕ} (w : Room g i from m to n s) {p 
   page-in x y = (w .chunk, rw e (w .chunks), rw (x, e) (w .target), rw (y, e) (w .source))
 
 -- the mark's word, by its number and by its place
-pub mark-low : {g : Geometry} {i from m to n s : ℕ} → Room g i from m to n s → ((2 + i) * g .ws ≤ s) × (2 + i ≤ s)
+pub mark-low : {g : Geometry} {i from m to n s : ℕ} → Room g i from m to n s → ((2 + i) * g .state .ws ≤ s) × (2 + i ≤ s)
 mark-low {g} {i} w = (omega (arith, w .mark), omega (arith, w .mark, le-mul-of-pos-right (2 + i) (w .word)))

@@ -7,9 +7,9 @@ use Rattle.geometry.specs.Geometry.{page}
 
 -- step i copies page `from` of an image of m bytes to page `to` of an image of n bytes, with a state area of s bytes
 pub record Room (g : Geometry) (i from m to n s : ℕ) : Type 0 where
-  pub word : 0 < g .ws
+  pub word : 0 < g .state .ws
   pub chunk : 0 < g .b
   pub chunks : page g / g .b * g .b ≡ page g
-  pub mark : (2 + i) * g .ws + g .ws ≤ s
+  pub mark : (2 + i) * g .state .ws + g .state .ws ≤ s
   pub source : from * page g + page g ≤ m
   pub target : to * page g + page g ≤ n

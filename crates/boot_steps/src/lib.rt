@@ -20,17 +20,17 @@ use state::State;
 
 // The first step that is not done. Read afresh before each step.
 pub fn current_progress(g: Geometry, state: &[u8]) -> usize
-    ensures { λ r. ⌜ r ≡ progress (g .ws) (now (state .entry)) ⌝ }
+    ensures { λ r. ⌜ r ≡ progress (g .state) (now (state .entry)) ⌝ }
 {
-    state_area::progress(state, g.ws as usize)
+    state_area::progress(state, g.state)
 }
 
 // Marks a step as done.
 fn update_progress(g: Geometry, state: &mut [u8], progress_index: usize, left: Budget) -> Flow
-    requires { ⌜ ((2 + «progress_index») * g .ws < 2 ^ 64) × (2 + «progress_index» < 2 ^ 64) ⌝ }
-    ensures { λ r. ⌜ InState (left .0) (markOp (g .ws) «progress_index» ∷ []) (now (state .entry)) (now (state .exit)) r ⌝ }
+    requires { ⌜ ((2 + «progress_index») * g .state .ws < 2 ^ 64) × (2 + «progress_index» < 2 ^ 64) ⌝ }
+    ensures { λ r. ⌜ InState (left .0) (markOp (g .state) «progress_index» ∷ []) (now (state .entry)) (now (state .exit)) r ⌝ }
 {
-    let ws = g.ws as usize;
+    let ws = g.state.ws as usize;
     let at = word_offset(Word(2 + progress_index), ws);
     mem_flash::write_word(state, at, State::MARK_VALUE, ws, left)
 }

@@ -4,6 +4,7 @@ use mathlib.Core.List.{List}
 use Prim.Native.Nat.{ℕ}
 use lib.ListN.{length}
 use Rattle.geometry.specs.declared.Geometry.{Geometry}
+use Rattle.geometry.specs.declared.StateSizes.{StateSizes}
 use Rattle.geometry.specs.declared.Sizes.{Sizes}
 use Rattle.mem_flash.specs.Flash.{Flash}
 use Rattle.rules.specs.Calls.{Call, report, left}
@@ -11,11 +12,14 @@ use Rattle.rules.specs.FirmwareUpdater.{readDfu, readOut, writeFirmware, memory
 use Rattle.packed.specs.Packed.{packed, sectorOf, lastNumber}
 
 -- the sizes, which C hands over as numbers in a row
+abbrev pub stateSizes : ℕ → ℕ → StateSizes
+stateSizes es ws = record { es = es; ws = ws }
+
 abbrev pub geometry : ℕ → ℕ → ℕ → ℕ → ℕ → ℕ → ℕ → Geometry
-geometry ea wa ed wd es ws b = record { ea = ea; wa = wa; ed = ed; wd = wd; es = es; ws = ws; b = b }
+geometry ea wa ed wd es ws b = record { ea = ea; wa = wa; ed = ed; wd = wd; state = stateSizes es ws; b = b }
 
 abbrev pub sizes : ℕ → ℕ → ℕ → ℕ → Sizes
-sizes ed wd es ws = record { ed = ed; wd = wd; es = es; ws = ws }
+sizes ed wd es ws = record { ed = ed; wd = wd; state = stateSizes es ws }
 
 -- the number r and the flash f′ are those of the call c on the flash f with a budget of k
 pub record Told (c : Call) (k : ℕ) (f f′ : Flash) (r : ℕ) : Type 0 where

@@ -12,12 +12,13 @@ ghost use Rattle.rules.specs.FirmwareState.{mark};
 ghost use Rattle.rules.specs.FirmwareUpdater.{updaterGetState, updaterMarkUpdated, updaterMarkDfu, updaterMarkBooted, prepareUpdate};
 ghost use Rattle.firmware_updater.specs.Updated.{lastOf};
 ghost use Rattle.packed.specs.Packed.{stateNumber, packed, sectorOf};
-ghost use Rattle.embassy_boot.specs.Told.{geometry, sizes, Told, ToldRead, ToldWrite};
+ghost use Rattle.embassy_boot.specs.Told.{stateSizes, geometry, sizes, Told, ToldRead, ToldWrite};
 use boot_loader::BootLoader;
 use firmware_state::BlockingFirmwareState;
 use firmware_updater::BlockingFirmwareUpdater;
 use geometry::Geometry;
 use geometry::Sizes;
+use geometry::StateSizes;
 use packed::NO_SECTOR;
 use state::State;
 
@@ -47,8 +48,7 @@ pub extern "C" fn eb_prepare_boot(
         wa,
         ed,
         wd,
-        es,
-        ws,
+        state: StateSizes { es, ws },
         b,
     };
     packed::pack(BootLoader::new(g).prepare_boot(active, dfu, state, budget))
@@ -57,15 +57,14 @@ pub extern "C" fn eb_prepare_boot(
 // The boot loader's reading of the state area. The images' sizes play no part in it.
 #[no_mangle]
 pub extern "C" fn eb_read_state(state: &[u8], es: u32, ws: u32) -> u64
-    ensures { λ r. ⌜ r ≡ packed (report (getState es ws (now (state .entry))) 0) ⌝ }
+    ensures { λ r. ⌜ r ≡ packed (report (getState (stateSizes es ws) (now (state .entry))) 0) ⌝ }
 {
     let g = Geometry {
         ea: 0,
         wa: 0,
         ed: 0,
         wd: 0,
-        es,
-        ws,
+        state: StateSizes { es, ws },
         b: 0,
     };
     packed::pack(BootLoader::new(g).read_state(state))
@@ -75,33 +74,33 @@ pub extern "C" fn eb_read_state(state: &[u8], es: u32, ws: u32) -> u64
 
 #[no_mangle]
 pub extern "C" fn eb_state_get_state(state: &[u8], es: u32, ws: u32) -> u64
-    ensures { λ r. ⌜ r ≡ packed (report (getState es ws (now (state .entry))) 0) ⌝ }
+    ensures { λ r. ⌜ r ≡ packed (report (getState (stateSizes es ws) (now (state .entry))) 0) ⌝ }
 {
-    packed::pack(BlockingFirmwareState::new(es, ws).get_state(state))
+    packed::pack(BlockingFirmwareState::new(StateSizes { es, ws }).get_state(state))
 }
 
 // The next boot swaps the images.
 #[no_mangle]
 pub extern "C" fn eb_state_mark_updated(state: &mut [u8], es: u32, ws: u32, budget: u32) -> u64
-    ensures { λ r. ⌜ Told (mark State.Swap es ws (now (state .entry))) budget (flash [] [] (now (state .entry))) (flash [] [] (now (state .exit))) r ⌝ }
+    ensures { λ r. ⌜ Told (mark State.Swap (stateSizes es ws) (now (state .entry))) budget (flash [] [] (now (state .entry))) (flash [] [] (now (state .exit))) r ⌝ }
 {
-    packed::pack(BlockingFirmwareState::new(es, ws).mark_updated(state, budget))
+    packed::pack(BlockingFirmwareState::new(StateSizes { es, ws }).mark_updated(state, budget))
 }
 
 // The next boot starts the USB update.
 #[no_mangle]
 pub extern "C" fn eb_state_mark_dfu(state: &mut [u8], es: u32, ws: u32, budget: u32) -> u64
-    ensures { λ r. ⌜ Told (mark State.DfuDetach es ws (now (state .entry))) budget (flash [] [] (now (state .entry))) (flash [] [] (now (state .exit))) r ⌝ }
+    ensures { λ r. ⌜ Told (mark State.DfuDetach (stateSizes es ws) (now (state .entry))) budget (flash [] [] (now (state .entry))) (flash [] [] (now (state .exit))) r ⌝ }
 {
-    packed::pack(BlockingFirmwareState::new(es, ws).mark_dfu(state, budget))
+    packed::pack(BlockingFirmwareState::new(StateSizes { es, ws }).mark_dfu(state, budget))
 }
 
 // The new firmware is confirmed: the next boot does not undo the swap.
 #[no_mangle]
 pub extern "C" fn eb_state_mark_booted(state: &mut [u8], es: u32, ws: u32, budget: u32) -> u64
-    ensures { λ r. ⌜ Told (mark State.Boot es ws (now (state .entry))) budget (flash [] [] (now (state .entry))) (flash [] [] (now (state .exit))) r ⌝ }
+    ensures { λ r. ⌜ Told (mark State.Boot (stateSizes es ws) (now (state .entry))) budget (flash [] [] (now (state .entry))) (flash [] [] (now (state .exit))) r ⌝ }
 {
-    packed::pack(BlockingFirmwareState::new(es, ws).mark_booted(state, budget))
+    packed::pack(BlockingFirmwareState::new(StateSizes { es, ws }).mark_booted(state, budget))
 }
 
 // ---- the firmware updater
@@ -111,7 +110,8 @@ fn updater(ed: u32, wd: u32, es: u32, ws: u32, last: u32) -> BlockingFirmwareUpd
     ensures { λ r. ⌜ (r .sizes ≡ sizes ed wd es ws) × (lastOf r ≡ sectorOf last) ⌝ }
 {
     let memory = packed::sector(last);
-    let sizes = Sizes { ed, wd, es, ws };
+    let z = StateSizes { es, ws };
+    let sizes = Sizes { ed, wd, state: z };
     BlockingFirmwareUpdater {
         sizes,
         last_erased_dfu_sector_index: memory,

@@ -4,14 +4,15 @@ use mathlib.Core.Bool.{Bool, true, false, not}
 use mathlib.Core.List.{List}
 use Prim.Native.Nat.{ℕ}
 use borrow.Author.Tests.{not-true, not-false}
+use Rattle.geometry.specs.declared.StateSizes.{StateSizes}
 use Rattle.geometry.specs.declared.Sizes.{Sizes}
 use Rattle.geometry.specs.declared.Refusal.{Refusal}
 use Rattle.geometry.specs.declared.Verdict.{Verdict}
 use Rattle.geometry.specs.declared.Verdict.the-variants as verdicts
 use Rattle.geometry.specs.Refusals.{updaterRefusal, verdict, number}
 use Rattle.geometry.proofs.Rows.{updater-early}
+use Rattle.geometry.proofs.Tests.{number-some}
 use Rattle.rules.specs.FirmwareUpdater.{pending}
-use Rattle.rules.proofs.Did.{number-some}
 
 -- a refusal by rows 1 to 4 stands whatever rows 5 and 6 say
 pub early-refusal : (z : Sizes) (ld ls : ℕ) (swap range : Bool) (v : Verdict) (w : Refusal) → verdict v ≡ updaterRefusal z ld ls false false
@@ -20,10 +21,10 @@ unfolding verdict
 early-refusal z ld ls swap range v w e o =
     updater-early z ld ls swap range (number w) (number-some w) (sym (ap verdict o) ∙ e)
 
--- what verify_booted found, with the word size w′ of the firmware state, holds for the word size w
-module _ {w w′ : ℕ} (s : List ℕ) {found : Bool} (same : w′ ≡ w) (e : found ≡ not (pending w′ s)) where
-  pub is-booted : found ≡ true → pending w s ≡ false
+-- what verify_booted found, with the sizes z′ of the firmware state, holds for the sizes z
+module _ {z z′ : StateSizes} (s : List ℕ) {found : Bool} (same : z′ ≡ z) (e : found ≡ not (pending z′ s)) where
+  pub is-booted : found ≡ true → pending z s ≡ false
   is-booted t = ap (λ i. pending i s) (sym same) ∙ not-true _ (sym e ∙ t)
 
-  pub is-pending : found ≡ false → pending w s ≡ true
+  pub is-pending : found ≡ false → pending z s ≡ true
   is-pending f = ap (λ i. pending i s) (sym same) ∙ not-false _ (sym e ∙ f)

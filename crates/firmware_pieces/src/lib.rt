@@ -16,13 +16,13 @@ use geometry::Verdict;
 
 // Rows 1 to 5 of the table.
 pub fn booted_verdict(sizes: Sizes, ld: usize, state: &[u8]) -> Verdict
-    ensures { λ r. ⌜ verdict r ≡ updaterRefusal sizes ld (length (now (state .entry))) (pending (sizes .ws) (now (state .entry))) false ⌝ }
+    ensures { λ r. ⌜ verdict r ≡ updaterRefusal sizes ld (length (now (state .entry))) (pending (sizes .state) (now (state .entry))) false ⌝ }
 {
     let judged = geometry::updater_verdict(sizes, ld, state.len());
     if let Verdict::Refused(why) = judged {
         return Verdict::Refused(why);
     }
-    if BlockingFirmwareState::new(sizes.es, sizes.ws).verify_booted(state) {
+    if BlockingFirmwareState::new(sizes.state).verify_booted(state) {
         return Verdict::Admitted;
     }
     Verdict::Refused(Refusal::BadState)
@@ -30,13 +30,13 @@ pub fn booted_verdict(sizes: Sizes, ld: usize, state: &[u8]) -> Verdict
 
 // Rows 1 to 6 for n bytes of data at an offset.
 pub fn write_verdict(sizes: Sizes, ld: usize, state: &[u8], offset: usize, n: usize) -> Verdict
-    ensures { λ r. ⌜ verdict r ≡ updaterRefusal sizes ld (length (now (state .entry))) (pending (sizes .ws) (now (state .entry))) (badRange (sizes .wd) ld offset n) ⌝ }
+    ensures { λ r. ⌜ verdict r ≡ updaterRefusal sizes ld (length (now (state .entry))) (pending (sizes .state) (now (state .entry))) (badRange (sizes .wd) ld offset n) ⌝ }
 {
     let judged = geometry::updater_verdict(sizes, ld, state.len());
     if let Verdict::Refused(why) = judged {
         return Verdict::Refused(why);
     }
-    if !BlockingFirmwareState::new(sizes.es, sizes.ws).verify_booted(state) {
+    if !BlockingFirmwareState::new(sizes.state).verify_booted(state) {
         return Verdict::Refused(Refusal::BadState);
     }
     if range::bad_range(sizes.wd as usize, ld, offset, n) {

@@ -9,6 +9,7 @@ use lib.ListN.{length}
 use Rattle.state.specs.declared.State.{State}
 use Rattle.state.specs.Choice.{pick}
 use Rattle.state.specs.Magic.{throughout}
+use Rattle.geometry.specs.declared.StateSizes.{StateSizes}
 use Rattle.geometry.specs.declared.Verdict.{Verdict}
 use Rattle.geometry.specs.declared.Verdict.the-variants as verdicts
 use Rattle.geometry.specs.Refusals.{verdict}
@@ -27,31 +28,31 @@ use Rattle.rules.proofs.Did.{verdict-admitted, did-cut, did-done}
 use Rattle.state_area.specs.Area.{InState, Invalidated, Renewed}
 
 -- what verify_booted answers in each state
-pub booted-is : (ws : ℕ) (st : List ℕ) (s t : State) → s ≡ readState ws st → s ≡ t → not (isSwap t) ≡ not (pending ws st)
+pub booted-is : (z : StateSizes) (st : List ℕ) {s t : State} → s ≡ readState z st → s ≡ t → not (isSwap t) ≡ not (pending z st)
 unfolding pending
-booted-is ws st s t e o = ap (λ (x : State). not (isSwap x)) (sym o ∙ e)
+booted-is z st e o = ap (λ (x : State). not (isSwap x)) (sym o ∙ e)
 
 -- ---- a magic
 
-module _ (es ws m k : ℕ) (st : List ℕ) where
-  pub magic-there : (l : Budget) → throughout m (word ws 0 st) ≡ true → InState (l .0) (setMagicOps es ws m st) st st (On l)
+module _ (z : StateSizes) (m : ℕ) (st : List ℕ) where
+  pub magic-there : (l : Budget) → throughout m (word z 0 st) ≡ true → InState (l .0) (setMagicOps z m st) st st (On l)
   unfolding setMagicOps pick run
   magic-there l e a d = rw e
 
-  module _ (n : throughout m (word ws 0 st) ≡ false) where
-    pub magic-renew : (st₁ : List ℕ) (r : Flow) → valid ws st ≡ false → Renewed k es ws m st st₁ r → InState k (setMagicOps es ws m st) st st₁ r
+  module _ (n : throughout m (word z 0 st) ≡ false) where
+    pub magic-renew : (k : ℕ) (st₁ : List ℕ) (r : Flow) → valid z st ≡ false → Renewed k z m st st₁ r → InState k (setMagicOps z m st) st st₁ r
     unfolding setMagicOps pick
-    magic-renew st₁ r v w a d = rw (n, v) (w a d)
+    magic-renew k st₁ r v w a d = rw (n, v) (w a d)
 
-    module _ (v : valid ws st ≡ true) (st₁ : List ℕ) (r : Flow) (i : Invalidated k ws st st₁ r) where
-      pub magic-cut : r ≡ Cut → InState k (setMagicOps es ws m st) st st₁ Cut
+    module _ (k : ℕ) (v : valid z st ≡ true) (st₁ : List ℕ) (r : Flow) (i : Invalidated k z st st₁ r) where
+      pub magic-cut : r ≡ Cut → InState k (setMagicOps z m st) st st₁ Cut
       unfolding setMagicOps pick
-      magic-cut o a d = rw (n, v) (then-cut k (invalidateOp ws ∷ []) _ _ _ r (i a d) o)
+      magic-cut o a d = rw (n, v) (then-cut k (invalidateOp z ∷ []) _ _ _ r (i a d) o)
 
-      pub magic-on : (l : Budget) (st₂ : List ℕ) (q : Flow) → r ≡ On l → length st₁ ≡ length st → Renewed (l .0) es ws m st₁ st₂ q
-          → InState k (setMagicOps es ws m st) st st₂ q
+      pub magic-on : (l : Budget) (st₂ : List ℕ) (q : Flow) → r ≡ On l → length st₁ ≡ length st → Renewed (l .0) z m st₁ st₂ q
+          → InState k (setMagicOps z m st) st st₂ q
       unfolding setMagicOps pick
-      magic-on l st₂ q o z w a d = rw (n, v) (then-on k (invalidateOp ws ∷ []) _ _ _ r (i a d) l o ∙ (rw z at (w a d)))
+      magic-on l st₂ q o h w a d = rw (n, v) (then-on k (invalidateOp z ∷ []) _ _ _ r (i a d) l o ∙ (rw h at (w a d)))
 
 -- what a call that marks leaves, from what the setting of the magic did
 module _ (c : Call) (k : ℕ) (st st₁ a d : List ℕ) (ops : List Op) (r : Flow) (v : Verdict) (e : verdict v ≡ c .refusal) (o : v ≡ verdicts.Admitted)

@@ -1,5 +1,5 @@
 // The firmware state: the part of firmware_updater/blocking.rs that knows the state area alone. The area is lent to each call,
-// its two sizes stand by value, and a budget of operations stands for the power supply.
+// its sizes stand by value, and a budget of operations stands for the power supply.
 ghost use mathlib.Core.Path.{_≡_};
 ghost use mathlib.Core.Bool.{not};
 ghost use mathlib.Core.Option.{none};
@@ -14,6 +14,7 @@ ghost use Rattle.rules.specs.Boot.{getState};
 ghost use Rattle.rules.specs.FirmwareState.{setMagicOps, mark};
 ghost use Rattle.rules.specs.FirmwareUpdater.{pending};
 ghost use Rattle.state_area.specs.Area.{InState};
+use geometry::StateSizes;
 use geometry::Verdict;
 use mem_flash::Budget;
 use mem_flash::Flow;
@@ -22,22 +23,21 @@ use state::State;
 
 // The state area as the application sees it.
 pub struct BlockingFirmwareState {
-    pub es: u32,
-    pub ws: u32,
+    pub sizes: StateSizes,
 }
 
 impl BlockingFirmwareState {
-    pub fn new(es: u32, ws: u32) -> Self
-        ensures { λ r. ⌜ (r .es ≡ es) × (r .ws ≡ ws) ⌝ }
+    pub fn new(sizes: StateSizes) -> Self
+        ensures { λ r. ⌜ r .sizes ≡ sizes ⌝ }
     {
-        BlockingFirmwareState { es, ws }
+        BlockingFirmwareState { sizes }
     }
 
     // No swap is pending, so the running firmware is one to go back to.
     pub fn verify_booted(self, state: &[u8]) -> bool
-        ensures { λ r. ⌜ r ≡ not (pending (self .ws) (now (state .entry))) ⌝ }
+        ensures { λ r. ⌜ r ≡ not (pending (self .sizes) (now (state .entry))) ⌝ }
     {
-        let found = state_area::read(state, self.ws as usize);
+        let found = state_area::read(state, self.sizes);
         match found {
             State::Swap => false,
             State::Boot => true,
@@ -47,42 +47,42 @@ impl BlockingFirmwareState {
     }
 
     pub fn get_state(self, state: &[u8]) -> Answer
-        ensures { λ r. ⌜ reported r ≡ report (getState (self .es) (self .ws) (now (state .entry))) 0 ⌝ }
+        ensures { λ r. ⌜ reported r ≡ report (getState (self .sizes) (now (state .entry))) 0 ⌝ }
     {
-        let judged = geometry::state_verdict(self.es, self.ws, state.len());
+        let judged = geometry::state_verdict(self.sizes, state.len());
         if let Verdict::Refused(why) = judged {
             return Answer::Refused(why);
         }
-        Answer::Found(state_area::read(state, self.ws as usize), 0)
+        Answer::Found(state_area::read(state, self.sizes), 0)
     }
 
     // The next boot swaps the images.
     pub fn mark_updated(self, state: &mut [u8], budget: u32) -> Answer
-        ensures { λ r. ⌜ Did (mark State.Swap (self .es) (self .ws) (now (state .entry))) budget (flash [] [] (now (state .entry))) (flash [] [] (now (state .exit))) r ⌝ }
+        ensures { λ r. ⌜ Did (mark State.Swap (self .sizes) (now (state .entry))) budget (flash [] [] (now (state .entry))) (flash [] [] (now (state .exit))) r ⌝ }
     {
-        let judged = geometry::state_verdict(self.es, self.ws, state.len());
+        let judged = geometry::state_verdict(self.sizes, state.len());
         self.mark(state, State::Swap, judged, budget)
     }
 
     // The next boot starts the USB update.
     pub fn mark_dfu(self, state: &mut [u8], budget: u32) -> Answer
-        ensures { λ r. ⌜ Did (mark State.DfuDetach (self .es) (self .ws) (now (state .entry))) budget (flash [] [] (now (state .entry))) (flash [] [] (now (state .exit))) r ⌝ }
+        ensures { λ r. ⌜ Did (mark State.DfuDetach (self .sizes) (now (state .entry))) budget (flash [] [] (now (state .entry))) (flash [] [] (now (state .exit))) r ⌝ }
     {
-        let judged = geometry::state_verdict(self.es, self.ws, state.len());
+        let judged = geometry::state_verdict(self.sizes, state.len());
         self.mark(state, State::DfuDetach, judged, budget)
     }
 
     // The new firmware is confirmed: the next boot does not undo the swap.
     pub fn mark_booted(self, state: &mut [u8], budget: u32) -> Answer
-        ensures { λ r. ⌜ Did (mark State.Boot (self .es) (self .ws) (now (state .entry))) budget (flash [] [] (now (state .entry))) (flash [] [] (now (state .exit))) r ⌝ }
+        ensures { λ r. ⌜ Did (mark State.Boot (self .sizes) (now (state .entry))) budget (flash [] [] (now (state .entry))) (flash [] [] (now (state .exit))) r ⌝ }
     {
-        let judged = geometry::state_verdict(self.es, self.ws, state.len());
+        let judged = geometry::state_verdict(self.sizes, state.len());
         self.mark(state, State::Boot, judged, budget)
     }
 
     // What the six calls that mark share: the refusal as it was judged, else the magic.
     pub fn mark(self, state: &mut [u8], s: State, judged: Verdict, budget: u32) -> Answer
-        ensures { λ r. ⌜ ((c : Call) (a d : List ℕ) → verdict judged ≡ c .refusal → c .state ≡ none → c .ops ≡ setMagicOps (self .es) (self .ws) (magic s) (now (state .entry))
+        ensures { λ r. ⌜ ((c : Call) (a d : List ℕ) → verdict judged ≡ c .refusal → c .state ≡ none → c .ops ≡ setMagicOps (self .sizes) (magic s) (now (state .entry))
             → Did c budget (flash a d (now (state .entry))) (flash a d (now (state .exit))) r) ⌝ }
     {
         if let Verdict::Refused(why) = judged {
@@ -96,19 +96,18 @@ impl BlockingFirmwareState {
 
     // The magic and an erased area, by way of an invalid progress: a cut on the way leaves no progress that counts.
     fn set_magic(self, state: &mut [u8], magic: u8, left: Budget) -> Flow
-        ensures { λ r. ⌜ InState (left .0) (setMagicOps (self .es) (self .ws) magic (now (state .entry))) (now (state .entry)) (now (state .exit)) r ⌝ }
+        ensures { λ r. ⌜ InState (left .0) (setMagicOps (self .sizes) magic (now (state .entry))) (now (state .entry)) (now (state .exit)) r ⌝ }
     {
-        let es = self.es as usize;
-        let ws = self.ws as usize;
-        if state_area::magic_is(state, ws, magic) {
+        let z = self.sizes;
+        if state_area::magic_is(state, z, magic) {
             return Flow::On(left);
         }
-        if state_area::is_valid(state, ws) {
-            let Flow::On(rest) = state_area::invalidate(state, ws, left) else {
+        if state_area::is_valid(state, z) {
+            let Flow::On(rest) = state_area::invalidate(state, z, left) else {
                 return Flow::Cut;
             };
-            return state_area::renew(state, es, ws, magic, rest);
+            return state_area::renew(state, z, magic, rest);
         }
-        state_area::renew(state, es, ws, magic, left)
+        state_area::renew(state, z, magic, left)
     }
 }

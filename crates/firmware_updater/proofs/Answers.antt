@@ -1,6 +1,6 @@
 -- Laws of the updater's answers: what each call leaves at each of its ways out. The verdict v and what it decides, the flow r and
 -- what it says are the facts that a proof has at hand there. Assumes nothing.
-use mathlib.Core.Path.{_≡_, refl, ap, ap₂, _∙_, sym}
+use mathlib.Core.Path.{_≡_, refl, ap, _∙_, sym}
 use mathlib.Core.Bool.{Bool, false}
 use mathlib.Core.Option.{none}
 use mathlib.Core.List.{List, []}
@@ -13,12 +13,14 @@ use borrow.Author.Tests.{eq-eqb, ne-eqb}
 use Rattle.state.specs.declared.State.{State}
 use Rattle.state.specs.Choice.{pick}
 use Rattle.state.specs.Magic.{magic}
+use Rattle.geometry.specs.declared.StateSizes.{StateSizes}
 use Rattle.geometry.specs.declared.Sizes.{Sizes}
 use Rattle.geometry.specs.declared.Refusal.{Refusal}
 use Rattle.geometry.specs.declared.Verdict.{Verdict}
 use Rattle.geometry.specs.declared.Verdict.the-variants as verdicts
 use Rattle.geometry.specs.Refusals.{updaterRefusal, verdict, number}
 use Rattle.geometry.proofs.Rows.{updater-admits}
+use Rattle.geometry.proofs.Tests.{number-some}
 use Rattle.mem_flash.specs.declared.Budget.{Budget}
 use Rattle.mem_flash.specs.declared.Flow.{Flow}
 use Rattle.mem_flash.specs.declared.Flow.the-variants.{On, Cut}
@@ -31,7 +33,7 @@ use Rattle.rules.specs.declared.Sector.{Sector}
 use Rattle.rules.specs.FirmwareState.{setMagicOps}
 use Rattle.rules.specs.Calls.{Call, reported, report, Did}
 use Rattle.rules.specs.FirmwareUpdater.{pending, pastEnd, badRange, pieces, piecesOps, updaterCall, updaterMark, readDfu, readOut, writeFirmware, memory, prepareUpdate}
-use Rattle.rules.proofs.Did.{number-some, verdict-admitted, did-refused, did-idle, did-cut, did-done}
+use Rattle.rules.proofs.Did.{verdict-admitted, did-refused, did-idle, did-cut, did-done}
 use Rattle.firmware_pieces.specs.Wrote.{WroteBy}
 use Rattle.firmware_pieces.proofs.Ranges.{range-in}
 use Rattle.firmware_updater.specs.declared.BlockingFirmwareUpdater.{BlockingFirmwareUpdater}
@@ -47,15 +49,15 @@ refused n {v} {w} e o =
 
 -- ---- the marks
 
--- what `does` is the firmware state's mark, whose sizes e and w are the updater's
-pub marked : (m : State) (swap : Bool) (z : Sizes) {k e w : ℕ} (d s s′ : List ℕ) (v : Verdict) {r : Answer}
-    → ((c : Call) (a d : List ℕ) → verdict v ≡ c .refusal → c .state ≡ none → c .ops ≡ setMagicOps e w (magic m) s
+-- what `does` is the firmware state's mark, whose sizes y are the updater's
+pub marked : (m : State) (swap : Bool) (z : Sizes) {k : ℕ} {y : StateSizes} (d s s′ : List ℕ) (v : Verdict) {r : Answer}
+    → ((c : Call) (a d : List ℕ) → verdict v ≡ c .refusal → c .state ≡ none → c .ops ≡ setMagicOps y (magic m) s
     → Did c k (flash a d s) (flash a d s′) r)
-    → (e ≡ z .es) × (w ≡ z .ws) → verdict v ≡ updaterRefusal z (length d) (length s) swap false
+    → y ≡ z .state → verdict v ≡ updaterRefusal z (length d) (length s) swap false
     → Did (updaterMark m swap z (flash [] d s)) k (flash [] d s) (flash [] d s′) r
 unfolding updaterMark updaterCall
 marked m swap z d s s′ v does same e =
-    does (updaterMark m swap z (flash [] d s)) [] d e refl (ap₂ (λ i j. setMagicOps i j (magic m) s) (sym (same .0)) (sym (same .1)))
+    does (updaterMark m swap z (flash [] d s)) [] d e refl (ap (λ i. setMagicOps i (magic m) s) (sym same))
 
 -- ---- read_dfu: the answer, and what the buffer `out` holds then
 
@@ -80,10 +82,10 @@ module _ (z : Sizes) (offset : ℕ) (out d s : List ℕ) {v : Verdict}
 -- its refusal
 writeRefusal : BlockingFirmwareUpdater → List ℕ → List ℕ → ℕ → List ℕ → ℕ
 writeRefusal u d s offset bytes =
-    updaterRefusal (u .sizes) (length d) (length s) (pending (u .sizes .ws) s) (badRange (u .sizes .wd) (length d) offset (length bytes))
+    updaterRefusal (u .sizes) (length d) (length s) (pending (u .sizes .state) s) (badRange (u .sizes .wd) (length d) offset (length bytes))
 
 module _ (u : BlockingFirmwareUpdater) (d s : List ℕ) (offset : ℕ) (bytes : List ℕ) {v : Verdict}
-    (e : verdict v ≡ updaterRefusal (u .sizes) (length d) (length s) (pending (u .sizes .ws) s) (badRange (u .sizes .wd) (length d) offset (length bytes))) where
+    (e : verdict v ≡ updaterRefusal (u .sizes) (length d) (length s) (pending (u .sizes .state) s) (badRange (u .sizes .wd) (length d) offset (length bytes))) where
   pub firmware-refused : {k : ℕ} {w : Refusal} → v ≡ verdicts.Refused w → WroteFirmware u k offset bytes d s d u (answers.Refused w)
   unfolding writeFirmware updaterCall memory pick writeRefusal
   firmware-refused {k} o =
@@ -131,7 +133,7 @@ module _ (u : BlockingFirmwareUpdater) (d s : List ℕ) (offset : ℕ) (bytes : 
 -- ---- prepare_update
 
 module _ (u : BlockingFirmwareUpdater) (d s : List ℕ) {v : Verdict}
-    (e : verdict v ≡ updaterRefusal (u .sizes) (length d) (length s) (pending (u .sizes .ws) s) false) where
+    (e : verdict v ≡ updaterRefusal (u .sizes) (length d) (length s) (pending (u .sizes .state) s) false) where
   pub update-refused : {k : ℕ} {w : Refusal} → v ≡ verdicts.Refused w → PreparedUpdate u k d s d u (answers.Refused w)
   unfolding prepareUpdate updaterCall
   update-refused {k} o =

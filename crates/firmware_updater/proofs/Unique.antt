@@ -1,50 +1,71 @@
--- Any two results that a contract of the updater allows for one input are equal: answer, areas, output
--- buffer and record. The lent calls have the same relations, so this is their theorem too. Assumes nothing.
-use mathlib.Core.Path.{_≡_, _∙_, sym, ap}
-use mathlib.Core.List.{List, []}
+-- Any two results that a contract of the updater allows for one input are equal: answer, areas, output buffer and record. It is said
+-- of the calls by value; the lent ones cite the same relations, and their contracts are compared with these by reading. Assumes nothing.
+use mathlib.Core.Path.{refl, sym, ap, ap₂, _∙_}
+use mathlib.Core.List.{List}
 use Prim.Native.Nat.{ℕ}
-use lib.ListN.{length}
+use Rattle.state.specs.OneResult.{OneResult}
 use Rattle.geometry.specs.declared.Sizes.{Sizes}
 use Rattle.mem_flash.specs.Flash.{Flash}
-use Rattle.mem_flash.specs.Run.{flash}
 use Rattle.rules.specs.declared.Answer.{Answer}
-use Rattle.rules.specs.Calls.{reported, report, Did}
-use Rattle.rules.specs.FirmwareUpdater.{updaterGetState, updaterMarkUpdated, updaterMarkDfu, updaterMarkBooted, readDfu, readOut}
+use Rattle.rules.specs.declared.Sector.{Sector}
 use Rattle.rules.proofs.Unique.{unique, answer-unique}
 use Rattle.firmware_updater.specs.declared.BlockingFirmwareUpdater.{BlockingFirmwareUpdater}
-use Rattle.firmware_updater.specs.Updated.{WroteFirmware, PreparedUpdate}
+use Rattle.firmware_updater.proofs.BlockingFirmwareUpdater.new.Kinds as new-kinds
+use Rattle.firmware_updater.proofs.BlockingFirmwareUpdater.new.Reads as new
+use Rattle.firmware_updater.proofs.BlockingFirmwareUpdater.get_state.Kinds as get-state-kinds
+use Rattle.firmware_updater.proofs.BlockingFirmwareUpdater.get_state.Reads as get-state
+use Rattle.firmware_updater.proofs.BlockingFirmwareUpdater.mark_updated.Kinds as mark-updated-kinds
+use Rattle.firmware_updater.proofs.BlockingFirmwareUpdater.mark_updated.Reads as mark-updated
+use Rattle.firmware_updater.proofs.BlockingFirmwareUpdater.mark_dfu.Kinds as mark-dfu-kinds
+use Rattle.firmware_updater.proofs.BlockingFirmwareUpdater.mark_dfu.Reads as mark-dfu
+use Rattle.firmware_updater.proofs.BlockingFirmwareUpdater.mark_booted.Kinds as mark-booted-kinds
+use Rattle.firmware_updater.proofs.BlockingFirmwareUpdater.mark_booted.Reads as mark-booted
+use Rattle.firmware_updater.proofs.BlockingFirmwareUpdater.read_dfu.Kinds as read-dfu-kinds
+use Rattle.firmware_updater.proofs.BlockingFirmwareUpdater.read_dfu.Reads as read-dfu
+use Rattle.firmware_updater.proofs.BlockingFirmwareUpdater.write_firmware.Kinds as write-firmware-kinds
+use Rattle.firmware_updater.proofs.BlockingFirmwareUpdater.write_firmware.Reads as write-firmware
+use Rattle.firmware_updater.proofs.BlockingFirmwareUpdater.prepare_update.Kinds as prepare-update-kinds
+use Rattle.firmware_updater.proofs.BlockingFirmwareUpdater.prepare_update.Reads as prepare-update
 
--- get_state
-pub updater-get-state-unique : (z : Sizes) (f : Flash) (q r : Answer) → reported q ≡ report (updaterGetState z f) 0
-    → reported r ≡ report (updaterGetState z f) 0 → q ≡ r
-updater-get-state-unique z f q r d e = answer-unique q r (d ∙ sym e)
+pub new-unique : OneResult new-kinds.ps new-kinds.r new.Post
+new-unique κs a x y v w p q =
+    (ap₂ (λ (z : Sizes) (m : Sector). record { sizes = z; «last_erased_dfu_sector_index» = m }) (p .0 ∙ sym (q .0)) (p .1 ∙ sym (q .1)), refl)
+
+pub get-state-unique : OneResult get-state-kinds.ps get-state-kinds.r get-state.Post
+get-state-unique κs a x y v w p q = (answer-unique x y (p ∙ sym q), refl)
 
 -- the three marks
-module _ (z : Sizes) (k : ℕ) (f f₁ f₂ : Flash) (q r : Answer) where
-  pub mark-updated-unique : Did (updaterMarkUpdated z f) k f f₁ q → Did (updaterMarkUpdated z f) k f f₂ r → (f₁ ≡ f₂) × (q ≡ r)
-  mark-updated-unique d e = unique (updaterMarkUpdated z f) k f f₁ f₂ q r d e
+pub mark-updated-unique : OneResult mark-updated-kinds.ps mark-updated-kinds.r mark-updated.Post
+mark-updated-unique κs a x y v w p q =
+    let e = unique _ _ _ _ _ x y p q in
+    (e .1, ap (λ (f : Flash). (tt, (tt, (f .state, (tt, tt))))) (e .0))
 
-  pub mark-dfu-unique : Did (updaterMarkDfu z f) k f f₁ q → Did (updaterMarkDfu z f) k f f₂ r → (f₁ ≡ f₂) × (q ≡ r)
-  mark-dfu-unique d e = unique (updaterMarkDfu z f) k f f₁ f₂ q r d e
+pub mark-dfu-unique : OneResult mark-dfu-kinds.ps mark-dfu-kinds.r mark-dfu.Post
+mark-dfu-unique κs a x y v w p q =
+    let e = unique _ _ _ _ _ x y p q in
+    (e .1, ap (λ (f : Flash). (tt, (tt, (f .state, (tt, tt))))) (e .0))
 
-  pub mark-booted-unique : Did (updaterMarkBooted z f) k f f₁ q → Did (updaterMarkBooted z f) k f f₂ r → (f₁ ≡ f₂) × (q ≡ r)
-  mark-booted-unique d e = unique (updaterMarkBooted z f) k f f₁ f₂ q r d e
+pub mark-booted-unique : OneResult mark-booted-kinds.ps mark-booted-kinds.r mark-booted.Post
+mark-booted-unique κs a x y v w p q =
+    let e = unique _ _ _ _ _ x y p q in
+    (e .1, ap (λ (f : Flash). (tt, (tt, (f .state, (tt, tt))))) (e .0))
 
--- read_dfu: the answer, and what the buffer holds then
-pub read-dfu-unique : (z : Sizes) (offset : ℕ) (out out₁ out₂ : List ℕ) (f : Flash) (q r : Answer)
-    → (reported q ≡ report (readDfu z offset (length out) f) 0) × (out₁ ≡ readOut z offset out f)
-    → (reported r ≡ report (readDfu z offset (length out) f) 0) × (out₂ ≡ readOut z offset out f) → (q ≡ r) × (out₁ ≡ out₂)
-read-dfu-unique z offset out out₁ out₂ f q r d e = (answer-unique q r (d .0 ∙ sym (e .0)), d .1 ∙ sym (e .1))
+-- the answer, and what the buffer holds then
+pub read-dfu-unique : OneResult read-dfu-kinds.ps read-dfu-kinds.r read-dfu.Post
+read-dfu-unique κs a x y v w p q =
+    (answer-unique x y (p .0 ∙ sym (q .0)), ap (λ (out : List ℕ). (tt, (tt, (tt, (tt, (out, tt)))))) (p .1 ∙ sym (q .1)))
 
 -- the calls that hand the record back
-module _ (u u₁ u₂ : BlockingFirmwareUpdater) (k : ℕ) (d s d₁ d₂ : List ℕ) (q r : Answer) where
-  pub write-firmware-unique : (offset : ℕ) (bytes : List ℕ) → WroteFirmware u k offset bytes d s d₁ u₁ q
-      → WroteFirmware u k offset bytes d s d₂ u₂ r → (d₁ ≡ d₂) × (u₁ ≡ u₂) × (q ≡ r)
-  write-firmware-unique offset bytes v w =
-      let e = unique _ k (flash [] d s) (flash [] d₁ s) (flash [] d₂ s) q r (v .did) (w .did) in
-      (ap (λ (f : Flash). f .dfu) (e .0), v .updater ∙ sym (w .updater), e .1)
+pub write-firmware-unique : OneResult write-firmware-kinds.ps write-firmware-kinds.r write-firmware.Post
+write-firmware-unique κs a x y v w p q =
+    let e = unique _ _ _ _ _ (x .answer) (y .answer) (p .did) (q .did) in (
+      ap₂ (λ (u : BlockingFirmwareUpdater) (r : Answer). record { updater = u; answer = r }) (p .updater ∙ sym (q .updater)) (e .1),
+      ap (λ (f : Flash). (tt, (f .dfu, (tt, (tt, (tt, (tt, tt))))))) (e .0),
+    )
 
-  pub prepare-update-unique : PreparedUpdate u k d s d₁ u₁ q → PreparedUpdate u k d s d₂ u₂ r → (d₁ ≡ d₂) × (u₁ ≡ u₂) × (q ≡ r)
-  prepare-update-unique v w =
-      let e = unique _ k (flash [] d s) (flash [] d₁ s) (flash [] d₂ s) q r (v .did) (w .did) in
-      (ap (λ (f : Flash). f .dfu) (e .0), v .updater ∙ sym (w .updater), e .1)
+pub prepare-update-unique : OneResult prepare-update-kinds.ps prepare-update-kinds.r prepare-update.Post
+prepare-update-unique κs a x y v w p q =
+    let e = unique _ _ _ _ _ (x .answer) (y .answer) (p .did) (q .did) in (
+      ap₂ (λ (u : BlockingFirmwareUpdater) (r : Answer). record { updater = u; answer = r }) (p .updater ∙ sym (q .updater)) (e .1),
+      ap (λ (f : Flash). (tt, (f .dfu, (tt, (tt, tt))))) (e .0),
+    )

@@ -50,7 +50,7 @@ impl BlockingFirmwareUpdater {
         if let Verdict::Refused(why) = judged {
             return Answer::Refused(why);
         }
-        Answer::Found(state_area::read(state, z.ws as usize), 0)
+        Answer::Found(state_area::read(state, z.state), 0)
     }
 
     // Fills the buffer with the bytes of DFU from an offset on.
@@ -175,8 +175,8 @@ impl BlockingFirmwareUpdater {
 
     // The firmware state of the same state area. In the Rust, a field.
     fn state(self) -> BlockingFirmwareState
-        ensures { λ r. ⌜ (r .es ≡ self .sizes .es) × (r .ws ≡ self .sizes .ws) ⌝ }
+        ensures { λ r. ⌜ r .sizes ≡ self .sizes .state ⌝ }
     {
-        BlockingFirmwareState::new(self.sizes.es, self.sizes.ws)
+        BlockingFirmwareState::new(self.sizes.state)
     }
 }

@@ -5,17 +5,17 @@ use mathlib.Core.Bool.{Bool, true, false}
 use mathlib.Core.List.{List, [], _∷_}
 use Prim.Native.Nat.{ℕ, _%_, _≤_, _<_}
 use native.Mathlib.Omega.{arith}
-use lib.Dec.{lit<}
 use borrow.Author.Tests.{ltb-false}
-use Rattle.state.specs.Choice.{pick}
 use Rattle.geometry.specs.declared.Geometry.{Geometry}
+use Rattle.geometry.specs.declared.StateSizes.{StateSizes}
 use Rattle.geometry.specs.declared.Sizes.{Sizes}
 use Rattle.geometry.specs.declared.Refusal.the-variants.{Limit, Page, Area, StateArea, BadState, Range}
 use Rattle.geometry.specs.declared.Verdict.the-variants.{Admitted as admits, Refused}
-use Rattle.geometry.specs.Geometry.{page, pages, words}
-use Rattle.geometry.specs.Refusals.{any, rowFrom, lowest, outside, unevenPage, unevenAreas, badState, bootWords, bootNumbers, bootRefusal, stateRefusal, updaterRefusal, uneven, otherWords, mostLength, number, verdict}
+use Rattle.geometry.specs.Geometry.{pages}
+use Rattle.geometry.specs.Refusals.{verdict, row, firstRow, bootRefusal, stateRefusal, updaterRows, updaterRefusal, mostLength}
+use Rattle.geometry.specs.Refusals.{outside, stateNumbers, bootNumbers, updaterNumbers, uneven, unevenPage, unevenAreas, badState, bootWords, otherWords}
 use Rattle.geometry.specs.Admitted.{Number, Numbers, Admitted}
-use Rattle.geometry.proofs.Tests.{any-none, row-none, row-here, row-past, row-end, number-in, length-in, even}
+use Rattle.geometry.proofs.Tests.{any-none, row-none, row-here, row-past, row-end, rows-early, rows-late, number-in, length-in, even}
 
 -- row 1
 pub record Limits (g : Geometry) (la ld ls : ℕ) : Type 0 where
@@ -25,7 +25,7 @@ pub record Limits (g : Geometry) (la ld ls : ℕ) : Type 0 where
   pub state : ls ≤ mostLength
 
 pub limits-in : (g : Geometry) (la ld ls : ℕ) → outside (bootNumbers g) (la ∷ ld ∷ ls ∷ []) ≡ false → Limits g la ld ls
-unfolding outside bootNumbers
+unfolding outside bootNumbers stateNumbers
 limits-in g la ld ls e =
     let a = any-none _ _ e in
     let b = any-none _ _ (a .1) in
@@ -40,13 +40,13 @@ limits-in g la ld ls e =
     record {
       numbers =
           record {
-            ea = number-in _ (a .0);
-            wa = number-in _ (b .0);
-            ed = number-in _ (c .0);
-            wd = number-in _ (d .0);
-            es = number-in _ (i .0);
-            ws = number-in _ (j .0);
-            b = number-in _ (k .0);
+            ea = number-in (a .0);
+            wa = number-in (b .0);
+            ed = number-in (c .0);
+            wd = number-in (d .0);
+            es = number-in (j .0);
+            ws = number-in (k .0);
+            b = number-in (i .0);
           };
       active = length-in _ (l .0);
       dfu = length-in _ (m .0);
@@ -55,12 +55,12 @@ limits-in g la ld ls e =
 
 -- all four
 pub admitted : (g : Geometry) (la ld ls : ℕ) → bootRefusal g la ld ls ≡ 0 → Admitted g la ld ls
-unfolding bootRefusal lowest unevenPage unevenAreas badState
+unfolding bootRefusal unevenPage unevenAreas badState
 admitted g la ld ls e =
-    let r = row-none _ _ _ (lit< tt) e in
-    let s = row-none _ _ _ (lit< tt) (r .1) in
-    let t = row-none _ _ _ (lit< tt) (s .1) in
-    let u = row-none _ _ _ (lit< tt) (t .1) in
+    let r = row-none _ _ _ e in
+    let s = row-none _ _ _ (r .1) in
+    let t = row-none _ _ _ (s .1) in
+    let u = row-none _ _ _ (t .1) in
     let limits = limits-in g la ld ls (r .0) in
     let a = any-none _ _ (s .0) in
     let b = any-none _ _ (a .1) in
@@ -100,85 +100,86 @@ admitted g la ld ls e =
 -- which row decides: the rows before it do not hold
 module _ (g : Geometry) (la ld ls : ℕ) where
   pub boot-limit : outside (bootNumbers g) (la ∷ ld ∷ ls ∷ []) ≡ true → verdict (Refused Limit) ≡ bootRefusal g la ld ls
-  unfolding verdict number bootRefusal lowest
-  boot-limit p = sym (row-here 1 _ _ p)
+  unfolding verdict bootRefusal
+  boot-limit p = sym (row-here _ _ p)
 
   module _ (p : outside (bootNumbers g) (la ∷ ld ∷ ls ∷ []) ≡ false) where
     pub boot-page : unevenPage g ≡ true → verdict (Refused Page) ≡ bootRefusal g la ld ls
-    unfolding verdict number bootRefusal lowest
-    boot-page q = sym (row-past 1 _ _ p ∙ row-here 2 _ _ q)
+    unfolding verdict bootRefusal
+    boot-page q = sym (row-past _ _ p ∙ row-here _ _ q)
 
     module _ (q : unevenPage g ≡ false) where
       pub boot-area : unevenAreas g la ld ≡ true → verdict (Refused Area) ≡ bootRefusal g la ld ls
-      unfolding verdict number bootRefusal lowest
-      boot-area r = sym (row-past 1 _ _ p ∙ row-past 2 _ _ q ∙ row-here 3 _ _ r)
+      unfolding verdict bootRefusal
+      boot-area r = sym (row-past _ _ p ∙ row-past _ _ q ∙ row-here _ _ r)
 
       module _ (r : unevenAreas g la ld ≡ false) where
-        pub boot-state : badState (bootWords (pages g la)) (g .es) (g .ws) ls ≡ true
-            → verdict (Refused StateArea) ≡ bootRefusal g la ld ls
-        unfolding verdict number bootRefusal lowest
-        boot-state s = sym (row-past 1 _ _ p ∙ row-past 2 _ _ q ∙ row-past 3 _ _ r ∙ row-here 4 _ _ s)
+        pub boot-state : badState (bootWords (pages g la)) (g .state) ls ≡ true → verdict (Refused StateArea) ≡ bootRefusal g la ld ls
+        unfolding verdict bootRefusal
+        boot-state s = sym (row-past _ _ p ∙ row-past _ _ q ∙ row-past _ _ r ∙ row-here _ _ s)
 
-        pub boot-admitted : badState (bootWords (pages g la)) (g .es) (g .ws) ls ≡ false
-            → verdict admits ≡ bootRefusal g la ld ls
-        unfolding verdict bootRefusal lowest
-        boot-admitted s = sym (row-past 1 _ _ p ∙ row-past 2 _ _ q ∙ row-past 3 _ _ r ∙ row-past 4 _ _ s ∙ row-end 5)
+        pub boot-admitted : badState (bootWords (pages g la)) (g .state) ls ≡ false → verdict admits ≡ bootRefusal g la ld ls
+        unfolding verdict bootRefusal
+        boot-admitted s = sym (row-past _ _ p ∙ row-past _ _ q ∙ row-past _ _ r ∙ row-past _ _ s ∙ row-end)
 
-module _ (es ws ls : ℕ) where
-  pub state-limit : outside (es ∷ ws ∷ []) (ls ∷ []) ≡ true → verdict (Refused Limit) ≡ stateRefusal es ws ls
-  unfolding verdict number stateRefusal lowest
-  state-limit p = sym (row-here 1 _ _ p)
+-- row 1 of a state area: its sizes are positive, so that they may divide
+state-some : (z : StateSizes) (ns : List ℕ) → outside (stateNumbers z) ns ≡ false → (0 < z .es) × (0 < z .ws)
+unfolding outside stateNumbers
+state-some z ns p =
+    let a = any-none _ _ p in
+    (number-in (a .0) .some, number-in (any-none _ _ (a .1) .0) .some)
 
-  module _ (p : outside (es ∷ ws ∷ []) (ls ∷ []) ≡ false) where
-    pub state-short : badState 2 es ws ls ≡ true → verdict (Refused StateArea) ≡ stateRefusal es ws ls
-    unfolding verdict number stateRefusal lowest otherWords
-    state-short s = sym (row-past 1 _ _ p ∙ row-past 2 _ _ refl ∙ row-past 3 _ _ refl ∙ row-here 4 _ _ s)
+module _ (z : StateSizes) (ls : ℕ) where
+  pub state-limit : outside (stateNumbers z) (ls ∷ []) ≡ true → verdict (Refused Limit) ≡ stateRefusal z ls
+  unfolding verdict stateRefusal
+  state-limit p = sym (row-here _ _ p)
 
-    pub state-admitted : badState 2 es ws ls ≡ false → verdict admits ≡ stateRefusal es ws ls
-    unfolding verdict stateRefusal lowest otherWords
-    state-admitted s = sym (row-past 1 _ _ p ∙ row-past 2 _ _ refl ∙ row-past 3 _ _ refl ∙ row-past 4 _ _ s ∙ row-end 5)
+  module _ (p : outside (stateNumbers z) (ls ∷ []) ≡ false) where
+    pub state-numbers : (0 < z .es) × (0 < z .ws)
+    state-numbers = state-some z _ p
 
-    pub state-numbers : (0 < es) × (0 < ws)
-    unfolding outside
-    state-numbers =
-        let a = any-none _ _ p in
-        (number-in _ (a .0) .some, number-in _ (any-none _ _ (a .1) .0) .some)
+    pub state-short : badState 2 z ls ≡ true → verdict (Refused StateArea) ≡ stateRefusal z ls
+    unfolding verdict stateRefusal otherWords
+    state-short s = sym (row-past _ _ p ∙ row-here _ _ s)
+
+    pub state-admitted : badState 2 z ls ≡ false → verdict admits ≡ stateRefusal z ls
+    unfolding verdict stateRefusal otherWords
+    state-admitted s = sym (row-past _ _ p ∙ row-past _ _ s ∙ row-end)
 
 -- the updater: rows 1 to 4
 module _ (z : Sizes) (ld ls : ℕ) where
-  pub updater-limit : outside (z .ed ∷ z .wd ∷ z .es ∷ z .ws ∷ []) (ld ∷ ls ∷ []) ≡ true → verdict (Refused Limit) ≡ updaterRefusal z ld ls false false
-  unfolding verdict number updaterRefusal lowest
-  updater-limit p = sym (row-here 1 _ _ p)
+  pub updater-limit : outside (updaterNumbers z) (ld ∷ ls ∷ []) ≡ true → verdict (Refused Limit) ≡ updaterRefusal z ld ls false false
+  unfolding verdict updaterRefusal updaterRows
+  updater-limit p = sym (row-here _ _ p)
 
-  module _ (p : outside (z .ed ∷ z .wd ∷ z .es ∷ z .ws ∷ []) (ld ∷ ls ∷ []) ≡ false) where
+  module _ (p : outside (updaterNumbers z) (ld ∷ ls ∷ []) ≡ false) where
     -- the numbers are positive, so that they may divide
-    pub updater-numbers : (0 < z .ed) × (0 < z .wd) × (0 < z .es) × (0 < z .ws)
-    unfolding outside
+    pub updater-numbers : (0 < z .ed) × (0 < z .wd) × (0 < z .state .es) × (0 < z .state .ws)
+    unfolding outside updaterNumbers
     updater-numbers =
         let a = any-none _ _ p in
         let b = any-none _ _ (a .1) in
-        let c = any-none _ _ (b .1) in
-        let d = any-none _ _ (c .1) in
-        (number-in _ (a .0) .some, number-in _ (b .0) .some, number-in _ (c .0) .some, number-in _ (d .0) .some)
+        let s = state-some (z .state) (ld ∷ ls ∷ []) (b .1) in
+        (number-in (a .0) .some, number-in (b .0) .some, s .0, s .1)
 
     pub updater-page : uneven (z .ed) (z .wd) ≡ true → verdict (Refused Page) ≡ updaterRefusal z ld ls false false
-    unfolding verdict number updaterRefusal lowest
-    updater-page q = sym (row-past 1 _ _ p ∙ row-here 2 _ _ q)
+    unfolding verdict updaterRefusal updaterRows
+    updater-page q = sym (row-past _ _ p ∙ row-here _ _ q)
 
     module _ (q : uneven (z .ed) (z .wd) ≡ false) where
       pub updater-area : uneven ld (z .ed) ≡ true → verdict (Refused Area) ≡ updaterRefusal z ld ls false false
-      unfolding verdict number updaterRefusal lowest
-      updater-area r = sym (row-past 1 _ _ p ∙ row-past 2 _ _ q ∙ row-here 3 _ _ r)
+      unfolding verdict updaterRefusal updaterRows
+      updater-area r = sym (row-past _ _ p ∙ row-past _ _ q ∙ row-here _ _ r)
 
       module _ (r : uneven ld (z .ed) ≡ false) where
-        pub updater-state : badState 2 (z .es) (z .ws) ls ≡ true → verdict (Refused StateArea) ≡ updaterRefusal z ld ls false false
-        unfolding verdict number updaterRefusal lowest otherWords
-        updater-state s = sym (row-past 1 _ _ p ∙ row-past 2 _ _ q ∙ row-past 3 _ _ r ∙ row-here 4 _ _ s)
+        pub updater-state : badState 2 (z .state) ls ≡ true → verdict (Refused StateArea) ≡ updaterRefusal z ld ls false false
+        unfolding verdict updaterRefusal updaterRows otherWords
+        updater-state s = sym (row-past _ _ p ∙ row-past _ _ q ∙ row-past _ _ r ∙ row-here _ _ s)
 
-        pub updater-admitted : badState 2 (z .es) (z .ws) ls ≡ false → verdict admits ≡ updaterRefusal z ld ls false false
-        unfolding verdict updaterRefusal lowest otherWords
+        pub updater-admitted : badState 2 (z .state) ls ≡ false → verdict admits ≡ updaterRefusal z ld ls false false
+        unfolding verdict updaterRefusal updaterRows otherWords
         updater-admitted s =
-            sym (row-past 1 _ _ p ∙ row-past 2 _ _ q ∙ row-past 3 _ _ r ∙ row-past 4 _ _ s ∙ row-past 5 _ _ refl ∙ row-past 6 _ _ refl ∙ row-end 7)
+            sym (row-past _ _ p ∙ row-past _ _ q ∙ row-past _ _ r ∙ row-past _ _ s ∙ row-past _ _ refl ∙ row-past _ _ refl ∙ row-end)
 
 -- what the updater's rows 1 to 4 leave: the areas are whole numbers of units
 pub record UpdaterAdmitted (z : Sizes) (ld : ℕ) : Type 0 where
@@ -189,57 +190,45 @@ pub record UpdaterAdmitted (z : Sizes) (ld : ℕ) : Type 0 where
 
 pub updater-admits : (z : Sizes) (ld ls : ℕ) (swap range : Bool) → updaterRefusal z ld ls swap range ≡ 0
     → UpdaterAdmitted z ld × (range ≡ false)
-unfolding updaterRefusal lowest outside
+unfolding updaterRefusal updaterRows outside updaterNumbers stateNumbers
 updater-admits z ld ls swap range e =
-    let r = row-none _ _ _ (lit< tt) e in
-    let s = row-none _ _ _ (lit< tt) (r .1) in
-    let t = row-none _ _ _ (lit< tt) (s .1) in
-    let u = row-none _ _ _ (lit< tt) (t .1) in
-    let v = row-none _ _ _ (lit< tt) (u .1) in
-    let w = row-none _ _ _ (lit< tt) (v .1) in
+    let r = row-none _ _ _ e in
+    let s = row-none _ _ _ (r .1) in
+    let t = row-none _ _ _ (s .1) in
+    let u = row-none _ _ _ (t .1) in
+    let v = row-none _ _ _ (u .1) in
+    let w = row-none _ _ _ (v .1) in
     let a = any-none _ _ (r .0) in
     let b = any-none _ _ (a .1) in
     let c = any-none _ _ (b .1) in
     let d = any-none _ _ (c .1) in
     let l = any-none _ _ (d .1) in
-    (record { ed = number-in _ (a .0); wd = number-in _ (b .0); dfu-units = even _ _ (t .0); dfu-most = length-in _ (l .0) }, w .0)
-
-early : (a b c d s r : Bool) (n : ℕ) → 0 < n → n ≡ rowFrom 1 (a ∷ b ∷ c ∷ d ∷ false ∷ false ∷ [])
-    → n ≡ rowFrom 1 (a ∷ b ∷ c ∷ d ∷ s ∷ r ∷ [])
-unfolding rowFrom pick
-early true b c d s r n h e = e
-early false true c d s r n h e = e
-early false false true d s r n h e = e
-early false false false true s r n h e = e
-early false false false false s r n h e = absurd (omega arith)
+    (record { ed = number-in (a .0); wd = number-in (b .0); dfu-units = even _ _ (t .0); dfu-most = length-in _ (l .0) }, w .0)
 
 -- rows 1 to 4 of the updater, said of any rows 5 and 6
 module _ (z : Sizes) (ld ls : ℕ) (swap range : Bool) where
   -- one of rows 1 to 4 holds: it is given whatever rows 5 and 6 say
   pub updater-early : (n : ℕ) → 0 < n → n ≡ updaterRefusal z ld ls false false → n ≡ updaterRefusal z ld ls swap range
-  unfolding updaterRefusal lowest
-  updater-early n h e = early _ _ _ _ swap range n h e
+  unfolding updaterRefusal
+  updater-early n h e =
+      let none : firstRow (row BadState false ∷ row Range false ∷ []) ≡ 0 = row-past _ _ refl ∙ row-past _ _ refl ∙ row-end in
+      e ∙ rows-early (updaterRows z ld ls) _ _ none (omega arith)
 
   -- none holds: row 5 decides, and then row 6
   module _ (e : updaterRefusal z ld ls false false ≡ 0) where
-    late : updaterRefusal z ld ls swap range ≡ rowFrom 5 (swap ∷ range ∷ [])
-    unfolding updaterRefusal lowest
-    late =
-        let a = row-none _ _ _ (lit< tt) e in
-        let b = row-none _ _ _ (lit< tt) (a .1) in
-        let c = row-none _ _ _ (lit< tt) (b .1) in
-        let d = row-none _ _ _ (lit< tt) (c .1) in
-        row-past 1 _ _ (a .0) ∙ row-past 2 _ _ (b .0) ∙ row-past 3 _ _ (c .0) ∙ row-past 4 _ _ (d .0)
+    late : updaterRefusal z ld ls swap range ≡ firstRow (row BadState swap ∷ row Range range ∷ [])
+    unfolding updaterRefusal
+    late = rows-late (updaterRows z ld ls) _ _ e
 
     pub updater-swap : swap ≡ true → verdict (Refused BadState) ≡ updaterRefusal z ld ls swap range
-    unfolding verdict number
-    updater-swap h = sym (late ∙ row-here 5 _ _ h)
+    unfolding verdict
+    updater-swap h = sym (late ∙ row-here _ _ h)
 
     module _ (h : swap ≡ false) where
       pub updater-range : range ≡ true → verdict (Refused Range) ≡ updaterRefusal z ld ls swap range
-      unfolding verdict number
-      updater-range k = sym (late ∙ row-past 5 _ _ h ∙ row-here 6 _ _ k)
+      unfolding verdict
+      updater-range k = sym (late ∙ row-past _ _ h ∙ row-here _ _ k)
 
       pub updater-passed : range ≡ false → verdict admits ≡ updaterRefusal z ld ls swap range
       unfolding verdict
-      updater-passed k = sym (late ∙ row-past 5 _ _ h ∙ row-past 6 _ _ k ∙ row-end 7)
+      updater-passed k = sym (late ∙ row-past _ _ h ∙ row-past _ _ k ∙ row-end)

@@ -16,8 +16,8 @@ pub record Numbers (g : Geometry) : Type 0 where
   pub wa : Number (g .wa)
   pub ed : Number (g .ed)
   pub wd : Number (g .wd)
-  pub es : Number (g .es)
-  pub ws : Number (g .ws)
+  pub es : Number (g .state .es)
+  pub ws : Number (g .state .ws)
   pub b : Number (g .b)
 
 -- none of the four rows holds
@@ -33,10 +33,10 @@ pub record Admitted (g : Geometry) (la ld ls : ℕ) : Type 0 where
   pub page-b : page g % g .b ≡ 0
   pub chunk-wa : g .b % g .wa ≡ 0
   pub chunk-wd : g .b % g .wd ≡ 0
-  pub chunk-ws : g .ws ≤ g .b
+  pub chunk-ws : g .state .ws ≤ g .b
   pub active-pages : la % page g ≡ 0
   pub dfu-pages : ld % page g ≡ 0
   pub dfu-longer : la + page g ≤ ld
-  pub unit-words : g .es % g .ws ≡ 0
-  pub state-units : ls % g .es ≡ 0
-  pub state-words : bootWords (pages g la) ≤ words (g .ws) ls
+  pub unit-words : g .state .es % g .state .ws ≡ 0
+  pub state-units : ls % g .state .es ≡ 0
+  pub state-words : bootWords (pages g la) ≤ words (g .state .ws) ls

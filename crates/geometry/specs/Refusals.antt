@@ -1,10 +1,11 @@
 -- Document 01, "When a call says no": the table, row by row. Numbers are whole numbers, so no sum wraps. Assumes nothing.
 use mathlib.Core.Bool.{Bool, true, false, not}
 use mathlib.Core.List.{List, [], _∷_, map, _++_}
-use Prim.Native.Nat.{ℕ, suc, _+_, _*_, _%_}
+use Prim.Native.Nat.{ℕ, _+_, _*_, _%_}
 use lib.Dec.{ltb, eqb}
 use Rattle.state.specs.Choice.{pick}
 use Rattle.geometry.specs.declared.Geometry.{Geometry}
+use Rattle.geometry.specs.declared.StateSizes.{StateSizes}
 use Rattle.geometry.specs.declared.Sizes.{Sizes}
 use Rattle.geometry.specs.declared.Refusal.{Refusal}
 use Rattle.geometry.specs.declared.Refusal.the-variants.{Limit, Page, Area, StateArea, BadState, Range}
@@ -17,14 +18,28 @@ unfoldable pub any : List Bool → Bool
 any [] = false
 any (b ∷ bs) = pick b true (any bs)
 
--- the rows of the table from row n on: the number of the first that holds, 0 where none does
-unfoldable pub rowFrom : ℕ → List Bool → ℕ
-rowFrom n [] = 0
-rowFrom n (b ∷ bs) = pick b n (rowFrom (suc n) bs)
+-- the number of each refusal
+unfoldable pub number : Refusal → ℕ
+number Limit = 1
+number Page = 2
+number Area = 3
+number StateArea = 4
+number BadState = 5
+number Range = 6
 
--- where several rows hold, the lowest is given
-unfoldable pub lowest : List Bool → ℕ
-lowest bs = rowFrom 1 bs
+-- and of a verdict: 0 where the call is admitted
+unfoldable pub verdict : Verdict → ℕ
+verdict Admitted = 0
+verdict (Refused r) = number r
+
+-- a row of the table: the refusal that it stands for, and whether it holds of a call
+pub data Row : Type 0 where
+  row : Refusal → Bool → Row
+
+-- rows in the order in which they are judged: the number of the first that holds, 0 where none does
+unfoldable pub firstRow : List Row → ℕ
+firstRow [] = 0
+firstRow (row r b ∷ rs) = pick b (number r) (firstRow rs)
 
 -- the largest geometry number, and the longest flash area
 unfoldable pub mostNumber : ℕ
@@ -58,7 +73,7 @@ unevenPage g =
     ∷ uneven (page g) (g .b)
     ∷ uneven (g .b) (g .wa)
     ∷ uneven (g .b) (g .wd)
-    ∷ ltb (g .b) (g .ws)
+    ∷ ltb (g .b) (g .state .ws)
     ∷ [])
 
 -- row 3, boot
@@ -66,8 +81,8 @@ unfoldable pub unevenAreas : Geometry → ℕ → ℕ → Bool
 unevenAreas g la ld = any (uneven la (page g) ∷ uneven ld (page g) ∷ ltb ld (la + page g) ∷ [])
 
 -- row 4: a state area of ls bytes that has to hold `least` words
-unfoldable pub badState : ℕ → ℕ → ℕ → ℕ → Bool
-badState least es ws ls = any (uneven es ws ∷ uneven ls es ∷ ltb (words ws ls) least ∷ [])
+unfoldable pub badState : ℕ → StateSizes → ℕ → Bool
+badState least z ls = any (uneven (z .es) (z .ws) ∷ uneven ls (z .es) ∷ ltb (words (z .ws) ls) least ∷ [])
 
 -- row 4, boot: T < 4N + 3, so that every mark of swap and revert is read
 unfoldable pub bootWords : ℕ → ℕ
@@ -77,47 +92,41 @@ bootWords n = 4 * n + 3
 unfoldable pub otherWords : ℕ
 otherWords = 2
 
--- the numbers that a boot reads
+-- the numbers of the state area, those that a boot reads, and those that the updater reads
+unfoldable pub stateNumbers : StateSizes → List ℕ
+stateNumbers z = z .es ∷ z .ws ∷ []
+
 unfoldable pub bootNumbers : Geometry → List ℕ
-bootNumbers g = g .ea ∷ g .wa ∷ g .ed ∷ g .wd ∷ g .es ∷ g .ws ∷ g .b ∷ []
+bootNumbers g = g .ea ∷ g .wa ∷ g .ed ∷ g .wd ∷ g .b ∷ stateNumbers (g .state)
+
+unfoldable pub updaterNumbers : Sizes → List ℕ
+updaterNumbers z = z .ed ∷ z .wd ∷ stateNumbers (z .state)
 
 -- prepare_boot
 unfoldable pub bootRefusal : Geometry → ℕ → ℕ → ℕ → ℕ
 bootRefusal g la ld ls =
-    lowest
-    (outside (bootNumbers g) (la ∷ ld ∷ ls ∷ [])
-    ∷ unevenPage g
-    ∷ unevenAreas g la ld
-    ∷ badState (bootWords (pages g la)) (g .es) (g .ws) ls
+    firstRow
+    (row Limit (outside (bootNumbers g) (la ∷ ld ∷ ls ∷ []))
+    ∷ row Page (unevenPage g)
+    ∷ row Area (unevenAreas g la ld)
+    ∷ row StateArea (badState (bootWords (pages g la)) (g .state) ls)
     ∷ [])
 
 -- the calls that read the state area alone: read_state and those of the firmware state
-unfoldable pub stateRefusal : ℕ → ℕ → ℕ → ℕ
-stateRefusal es ws ls =
-    lowest (outside (es ∷ ws ∷ []) (ls ∷ []) ∷ false ∷ false ∷ badState otherWords es ws ls ∷ [])
+unfoldable pub stateRefusal : StateSizes → ℕ → ℕ
+stateRefusal z ls =
+    firstRow (row Limit (outside (stateNumbers z) (ls ∷ [])) ∷ row StateArea (badState otherWords z ls) ∷ [])
+
+-- the rows that all of the updater's calls ask
+unfoldable pub updaterRows : Sizes → ℕ → ℕ → List Row
+updaterRows z ld ls =
+    row Limit (outside (updaterNumbers z) (ld ∷ ls ∷ []))
+    ∷ row Page (uneven (z .ed) (z .wd))
+    ∷ row Area (uneven ld (z .ed))
+    ∷ row StateArea (badState otherWords (z .state) ls)
+    ∷ []
 
 -- the updater's calls, with what rows 5 and 6 say of this call
 unfoldable pub updaterRefusal : Sizes → ℕ → ℕ → Bool → Bool → ℕ
 updaterRefusal z ld ls swap range =
-    lowest
-    (outside (z .ed ∷ z .wd ∷ z .es ∷ z .ws ∷ []) (ld ∷ ls ∷ [])
-    ∷ uneven (z .ed) (z .wd)
-    ∷ uneven ld (z .ed)
-    ∷ badState otherWords (z .es) (z .ws) ls
-    ∷ swap
-    ∷ range
-    ∷ [])
-
--- the number of each refusal
-unfoldable pub number : Refusal → ℕ
-number Limit = 1
-number Page = 2
-number Area = 3
-number StateArea = 4
-number BadState = 5
-number Range = 6
-
--- and of a verdict: 0 where the call is admitted
-unfoldable pub verdict : Verdict → ℕ
-verdict Admitted = 0
-verdict (Refused r) = number r
+    firstRow (updaterRows z ld ls ++ (row BadState swap ∷ row Range range ∷ []))

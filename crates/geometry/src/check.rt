@@ -2,13 +2,14 @@
 // divides is known to be positive, since row 1 is asked first.
 ghost use mathlib.Core.Path.{_≡_};
 ghost use mathlib.Core.Bool.{Bool};
-ghost use mathlib.Core.List.{List, [], _∷_};
+ghost use mathlib.Core.List.{List, [], _∷_, _++_, map};
 ghost use Prim.Native.Nat.{_<_, _≤_};
 ghost use Rattle.geometry.specs.Geometry.{pages};
 ghost use Rattle.geometry.specs.Admitted.{Numbers};
-ghost use Rattle.geometry.specs.Refusals.{any, badNumber, tooLong, uneven, outside, unevenPage, unevenAreas, badState, bootWords, bootNumbers, mostLength};
+ghost use Rattle.geometry.specs.Refusals.{any, badNumber, tooLong, uneven, outside, unevenPage, unevenAreas, badState, bootWords, stateNumbers, bootNumbers, updaterNumbers, mostLength};
 use crate::Geometry;
 use crate::Sizes;
+use crate::StateSizes;
 
 // The first test, or the list of tests that follow it.
 pub fn or(first: bool, rest: bool) -> bool
@@ -44,33 +45,39 @@ pub fn uneven(n: usize, m: usize) -> bool
     n % m != 0
 }
 
+// Row 1's tests of the state area's sizes, before the list of tests that follow them.
+fn bad_sizes(z: StateSizes, rest: bool) -> bool
+    ensures { λ r. ⌜ ((bs : List Bool) → rest ≡ any bs → r ≡ any (map badNumber (stateNumbers z) ++ bs)) ⌝ }
+{
+    or(bad_number(z.es), or(bad_number(z.ws), rest))
+}
+
 // Row 1 of prepare_boot.
 pub fn boot_limits(g: Geometry, la: usize, ld: usize, ls: usize) -> bool
     ensures { λ r. ⌜ r ≡ outside (bootNumbers g) (la ∷ ld ∷ ls ∷ []) ⌝ }
 {
     let lengths = or(too_long(la), or(too_long(ld), last(too_long(ls))));
-    let state = or(
-        bad_number(g.es),
-        or(bad_number(g.ws), or(bad_number(g.b), lengths)),
-    );
+    let state = or(bad_number(g.b), bad_sizes(g.state, lengths));
     let dfu = or(bad_number(g.ed), or(bad_number(g.wd), state));
     or(bad_number(g.ea), or(bad_number(g.wa), dfu))
 }
 
 // Row 1 of the calls that read the state area alone.
-pub fn state_limits(es: u32, ws: u32, ls: usize) -> bool
-    ensures { λ r. ⌜ r ≡ outside (es ∷ ws ∷ []) (ls ∷ []) ⌝ }
+pub fn state_limits(z: StateSizes, ls: usize) -> bool
+    ensures { λ r. ⌜ r ≡ outside (stateNumbers z) (ls ∷ []) ⌝ }
 {
-    or(bad_number(es), or(bad_number(ws), last(too_long(ls))))
+    bad_sizes(z, last(too_long(ls)))
 }
 
 // Row 1 of the updater.
 pub fn updater_limits(z: Sizes, ld: usize, ls: usize) -> bool
-    ensures { λ r. ⌜ r ≡ outside (z .ed ∷ z .wd ∷ z .es ∷ z .ws ∷ []) (ld ∷ ls ∷ []) ⌝ }
+    ensures { λ r. ⌜ r ≡ outside (updaterNumbers z) (ld ∷ ls ∷ []) ⌝ }
 {
     let lengths = or(too_long(ld), last(too_long(ls)));
-    let state = or(bad_number(z.es), or(bad_number(z.ws), lengths));
-    or(bad_number(z.ed), or(bad_number(z.wd), state))
+    or(
+        bad_number(z.ed),
+        or(bad_number(z.wd), bad_sizes(z.state, lengths)),
+    )
 }
 
 // Row 2 of prepare_boot.
@@ -82,7 +89,8 @@ pub fn uneven_page(g: Geometry) -> bool
     let b = g.b as usize;
     let wa = g.wa as usize;
     let wd = g.wd as usize;
-    let chunk = or(uneven(b, wa), or(uneven(b, wd), last(b < g.ws as usize)));
+    let ws = g.state.ws as usize;
+    let chunk = or(uneven(b, wa), or(uneven(b, wd), last(b < ws)));
     let writes = or(uneven(p, wa), or(uneven(p, wd), or(uneven(p, b), chunk)));
     or(
         uneven(p, g.ea as usize),
@@ -100,10 +108,12 @@ pub fn uneven_areas(g: Geometry, la: usize, ld: usize) -> bool
 }
 
 // Row 4: the state area has to hold `least` words.
-pub fn bad_state(least: usize, es: usize, ws: usize, ls: usize) -> bool
-    requires { ⌜ (0 < es) × (0 < ws) ⌝ }
-    ensures { λ r. ⌜ r ≡ badState least es ws ls ⌝ }
+pub fn bad_state(least: usize, z: StateSizes, ls: usize) -> bool
+    requires { ⌜ (0 < z .es) × (0 < z .ws) ⌝ }
+    ensures { λ r. ⌜ r ≡ badState least z ls ⌝ }
 {
+    let es = z.es as usize;
+    let ws = z.ws as usize;
     or(uneven(es, ws), or(uneven(ls, es), last(ls / ws < least)))
 }
 
@@ -118,8 +128,8 @@ pub fn boot_words(n: usize) -> usize
 // Row 4 of prepare_boot.
 pub fn bad_boot_state(g: Geometry, la: usize, ls: usize) -> bool
     requires { ⌜ Numbers g × (la ≤ mostLength) ⌝ }
-    ensures { λ r. ⌜ r ≡ badState (bootWords (pages g la)) (g .es) (g .ws) ls ⌝ }
+    ensures { λ r. ⌜ r ≡ badState (bootWords (pages g la)) (g .state) ls ⌝ }
 {
     let n = la / g.page_size();
-    bad_state(boot_words(n), g.es as usize, g.ws as usize, ls)
+    bad_state(boot_words(n), g.state, ls)
 }

@@ -1,11 +1,18 @@
 // The geometry of the three areas, and the refusals that stand for the Rust's assertions on it: the const block of
 // `prepare_boot` and `assert_partitions` of boot_loader.rs.
 ghost use mathlib.Core.Path.{_≡_};
-ghost use Rattle.geometry.specs.Geometry.{page};
 ghost use mathlib.Core.Bool.{false};
+ghost use Prim.Native.Nat.{min};
+ghost use Rattle.geometry.specs.Geometry.{page};
 ghost use Rattle.geometry.specs.Refusals.{number, verdict, bootRefusal, stateRefusal, updaterRefusal};
 
 mod check;
+
+// The sizes of the state area: its erase size and its write size.
+pub struct StateSizes {
+    pub es: u32,
+    pub ws: u32,
+}
 
 // The sizes in bytes. In the Rust they are constants of the flash types, and the chunk is the length of a buffer.
 pub struct Geometry {
@@ -15,9 +22,7 @@ pub struct Geometry {
     // DFU.
     pub ed: u32,
     pub wd: u32,
-    // State.
-    pub es: u32,
-    pub ws: u32,
+    pub state: StateSizes,
     // The chunk in which a page is copied.
     pub b: u32,
 }
@@ -26,8 +31,7 @@ pub struct Geometry {
 pub struct Sizes {
     pub ed: u32,
     pub wd: u32,
-    pub es: u32,
-    pub ws: u32,
+    pub state: StateSizes,
 }
 
 // A page of an image, a word of the state area, a byte of an area: three kinds, so that none is passed for another.
@@ -87,6 +91,13 @@ impl Geometry {
     }
 }
 
+// The lesser of two numbers: what a range takes of the bytes that there are.
+pub fn least(a: usize, b: usize) -> usize
+    ensures { λ r. ⌜ r ≡ min a b ⌝ }
+{
+    if a < b { a } else { b }
+}
+
 // Whether prepare_boot takes this geometry with areas of these lengths.
 pub fn boot_verdict(g: Geometry, la: usize, ld: usize, ls: usize) -> Verdict
     ensures { λ r. ⌜ verdict r ≡ bootRefusal g la ld ls ⌝ }
@@ -106,14 +117,14 @@ pub fn boot_verdict(g: Geometry, la: usize, ld: usize, ls: usize) -> Verdict
     Verdict::Admitted
 }
 
-// Whether a call that reads the state area alone takes these numbers and this length.
-pub fn state_verdict(es: u32, ws: u32, ls: usize) -> Verdict
-    ensures { λ r. ⌜ verdict r ≡ stateRefusal es ws ls ⌝ }
+// Whether a call that reads the state area alone takes these sizes and this length.
+pub fn state_verdict(z: StateSizes, ls: usize) -> Verdict
+    ensures { λ r. ⌜ verdict r ≡ stateRefusal z ls ⌝ }
 {
-    if check::state_limits(es, ws, ls) {
+    if check::state_limits(z, ls) {
         return Verdict::Refused(Refusal::Limit);
     }
-    if check::bad_state(2, es as usize, ws as usize, ls) {
+    if check::bad_state(2, z, ls) {
         return Verdict::Refused(Refusal::StateArea);
     }
     Verdict::Admitted
@@ -132,7 +143,7 @@ pub fn updater_verdict(z: Sizes, ld: usize, ls: usize) -> Verdict
     if check::uneven(ld, z.ed as usize) {
         return Verdict::Refused(Refusal::Area);
     }
-    if check::bad_state(2, z.es as usize, z.ws as usize, ls) {
+    if check::bad_state(2, z.state, ls) {
         return Verdict::Refused(Refusal::StateArea);
     }
     Verdict::Admitted

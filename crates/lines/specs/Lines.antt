@@ -65,8 +65,7 @@ sizesOf (some ns) =
       wa = getD ns 1 0;
       ed = getD ns 2 0;
       wd = getD ns 3 0;
-      es = getD ns 4 0;
-      ws = getD ns 5 0;
+      state = record { es = getD ns 4 0; ws = getD ns 5 0 };
       b = getD ns 6 0;
     })
 

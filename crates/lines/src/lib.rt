@@ -6,6 +6,7 @@ ghost use lib.ListN.{length};
 ghost use Rattle.lines.specs.Lines.{sizesLine, lengthsLine, commandLine, mostBytes, takenAt, heldThen};
 ghost use Rattle.lines.specs.Lines.{named as Lines·named};
 use geometry::Geometry;
+use geometry::StateSizes;
 use numerals::SPACE;
 
 // The first line.
@@ -98,8 +99,7 @@ pub fn read_sizes(line: &[u8]) -> SizesLine
         wa: n[1],
         ed: n[2],
         wd: n[3],
-        es: n[4],
-        ws: n[5],
+        state: StateSizes { es: n[4], ws: n[5] },
         b: n[6],
     })
 }

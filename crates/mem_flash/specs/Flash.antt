@@ -50,7 +50,14 @@ change active h f = record { active = h (f .active); dfu = f .dfu; state = f .st
 change dfu h f = record { active = f .active; dfu = h (f .dfu); state = f .state }
 change state h f = record { active = f .active; dfu = f .dfu; state = h (f .state) }
 
--- the flash after one operation, after a list of them, and after the first k of a list
+-- what a run is handed: today a count of operations
+abbrev pub Supply : Type 0
+Supply = ℕ
+
+abbrev pub count : Supply → ℕ
+count k = k
+
+-- the flash after one operation, after a list of them, and after a run of a list that is handed k
 unfoldable pub apply : Op → Flash → Flash
 apply (erase a from n) f = change a (erasedAt from n) f
 apply (write a at bs) f = change a (writtenAt at bs) f
@@ -59,8 +66,8 @@ unfoldable pub applyAll : List Op → Flash → Flash
 applyAll [] f = f
 applyAll (o ∷ os) f = applyAll os (apply o f)
 
-unfoldable pub after : ℕ → List Op → Flash → Flash
-after k os f = applyAll (take k os) f
+unfoldable pub after : Supply → List Op → Flash → Flash
+after k os f = applyAll (take (count k) os) f
 
 -- so many erase units of an area from an offset on, in rising order: each is one operation
 unfoldable pub unitOps : ℕ → ℕ → Area → ℕ → List Op

@@ -8,7 +8,7 @@ use lib.ListN.{length}
 use Rattle.state.specs.Choice.{pick}
 use Rattle.mem_flash.specs.declared.Flow.{Flow}
 use Rattle.mem_flash.specs.declared.Flow.the-variants.{On, Cut}
-use Rattle.mem_flash.specs.Flash.{Area, Flash, Op, erase, write, change, apply, after}
+use Rattle.mem_flash.specs.Flash.{Area, Flash, Op, erase, write, change, apply, after, Supply, count}
 
 -- the flash of three areas
 abbrev pub flash : List ℕ → List ℕ → List ℕ → Flash
@@ -27,17 +27,17 @@ abbrev pub ended : Flash → Flow → End
 ended f r = record { flash = f; flow = r }
 
 -- the walk: each operation takes one of the budget, and one that is wanted when none is left is the cut
-unfoldable pub run : ℕ → List Op → Flash → End
+unfoldable pub run : Supply → List Op → Flash → End
 run k [] f = ended f (on k)
 run zero (o ∷ os) f = ended f Cut
 run (suc k) (o ∷ os) f = run k os (apply o f)
 
 -- by counting: n operations with a budget of k
-unfoldable pub outcome : ℕ → ℕ → Flow
-outcome k n = pick (leb n k) (on (k - n)) Cut
+unfoldable pub outcome : Supply → ℕ → Flow
+outcome k n = pick (leb n (count k)) (on (count k - n)) Cut
 
 -- the operations os on the flash f with a budget of k leave the flash f′ and the answer r
-pub record Ran (k : ℕ) (os : List Op) (f f′ : Flash) (r : Flow) : Type 0 where
+pub record Ran (k : Supply) (os : List Op) (f f′ : Flash) (r : Flow) : Type 0 where
   pub flash : f′ ≡ after k os f
   pub flow : r ≡ outcome k (length os)
 
@@ -46,7 +46,7 @@ unfoldable pub placed : Area → List ℕ → Flash → Flash
 placed a xs f = change a (λ _. xs) f
 
 -- operations on one area, whichever it is: they leave xs′ where xs was, and the answer r
-abbrev pub InArea : ℕ → (Area → List Op) → List ℕ → List ℕ → Flow → Type 0
+abbrev pub InArea : Supply → (Area → List Op) → List ℕ → List ℕ → Flow → Type 0
 InArea k os xs xs′ r = (a : Area) (f : Flash) → run k (os a) (placed a xs f) ≡ ended (placed a xs′ f) r
 
 -- an erase of one unit, and a write, as lists of operations with their area last

@@ -1,7 +1,7 @@
 // Flash in memory: mem_flash.rs, with a budget that erases count against too, and writes that let bits fall.
 // A range that runs past the end of an area changes the bytes that are there, so nothing is asked of the caller.
 ghost use mathlib.Core.Path.{_≡_};
-ghost use Prim.Native.Nat.{_+_, _-_, _*_, _≤_, _<_, _^_, min};
+ghost use Prim.Native.Nat.{_+_, _-_, _*_, _≤_, _<_, _^_};
 ghost use lib.ListN.{length, take, replicate};
 ghost use Rattle.mem_flash.specs.Flash.{erasedAt, writtenAt, unitOps, eraseOps};
 ghost use Rattle.mem_flash.specs.Run.{InArea, unitOp, writeOps};
@@ -15,12 +15,6 @@ pub struct Budget(pub u32);
 pub enum Flow {
     On(Budget),
     Cut,
-}
-
-fn least(a: usize, b: usize) -> usize
-    ensures { λ r. ⌜ r ≡ min a b ⌝ }
-{
-    if a < b { a } else { b }
 }
 
 fn fill(area: &mut [u8], from: usize, to: usize)
@@ -64,7 +58,7 @@ fn erase_unit(area: &mut [u8], at: usize, end: usize, left: Budget) -> Flow
     if k == 0 {
         return Flow::Cut;
     }
-    let stop = least(end, area.len());
+    let stop = geometry::least(end, area.len());
     fill(area, at, stop);
     Flow::On(Budget(k - 1))
 }
@@ -110,8 +104,8 @@ pub fn write(area: &mut [u8], offset: Offset, bytes: &[u8], left: Budget) -> Flo
     if k == 0 {
         return Flow::Cut;
     }
-    let at = least(offset.0, area.len());
-    let len = least(bytes.len(), area.len() - at);
+    let at = geometry::least(offset.0, area.len());
+    let len = geometry::least(bytes.len(), area.len() - at);
     program(area, at, bytes, len);
     Flow::On(Budget(k - 1))
 }
@@ -124,8 +118,8 @@ pub fn write_word(area: &mut [u8], offset: Offset, value: u8, len: usize, left: 
     if k == 0 {
         return Flow::Cut;
     }
-    let at = least(offset.0, area.len());
-    let room = least(len, area.len() - at);
+    let at = geometry::least(offset.0, area.len());
+    let room = geometry::least(len, area.len() - at);
     program_word(area, at, value, room);
     Flow::On(Budget(k - 1))
 }

@@ -152,13 +152,13 @@ module _ (g : Geometry) where
       (alike-chunks (page g / g .b) (c .to) (c .target * page g) (c .source * page g) (g .b) (sourceOf (c .to) f)
       (sourceOf (c .to) h)
       (like-source (c .to) f h e)))
-      _ _ (same (markOp (g .ws) (c .mark) ∷ []))
+      _ _ (same (markOp (g .state) (c .mark) ∷ []))
 
   alike-once : (c : Copy) (f h : Flash) → Alike f h → AlikeOps (onceOps g c f) (onceOps g c h)
   unfolding onceOps
   alike-once c f h e =
-      subst (λ (st : List ℕ). AlikeOps (onceOps g c f) (pick (leb (progress (g .ws) st) (c .mark)) (copyOps g c h) [])) (e .state)
-      (alike-pick (leb (progress (g .ws) (f .state)) (c .mark)) (alike-copy c f h e) nothing)
+      subst (λ (st : List ℕ). AlikeOps (onceOps g c f) (pick (leb (progress (g .state) st) (c .mark)) (copyOps g c h) [])) (e .state)
+      (alike-pick (leb (progress (g .state) (f .state)) (c .mark)) (alike-copy c f h e) nothing)
 
   alike-copies : (cs : List Copy) (f h : Flash) → Alike f h → AlikeOps (copiesOps g cs f) (copiesOps g cs h)
   unfolding copiesOps
@@ -186,13 +186,13 @@ module _ (g : Geometry) where
 
     same-finish : finishOps g f ≡ finishOps g h
     unfolding finishOps
-    same-finish = ap (λ (st : List ℕ). invalidateOp (g .ws) ∷ renewOps (g .es) (g .ws) (length st) (magic Revert)) (e .state)
+    same-finish = ap (λ (st : List ℕ). invalidateOp (g .state) ∷ renewOps (g .state) (length st) (magic Revert)) (e .state)
 
-    same-renew : renewOps (g .es) (g .ws) (length (f .state)) (magic Boot) ≡ renewOps (g .es) (g .ws) (length (h .state)) (magic Boot)
-    same-renew = ap (λ (st : List ℕ). renewOps (g .es) (g .ws) (length st) (magic Boot)) (e .state)
+    same-renew : renewOps (g .state) (length (f .state)) (magic Boot) ≡ renewOps (g .state) (length (h .state)) (magic Boot)
+    same-renew = ap (λ (st : List ℕ). renewOps (g .state) (length st) (magic Boot)) (e .state)
 
-    same-confirming : confirming (g .ws) (pageCount g f) (f .state) ≡ confirming (g .ws) (pageCount g h) (h .state)
-    same-confirming = ap₂ (confirming (g .ws)) same-pages (e .state)
+    same-confirming : confirming (g .state) (pageCount g f) (f .state) ≡ confirming (g .state) (pageCount g h) (h .state)
+    same-confirming = ap₂ (confirming (g .state)) same-pages (e .state)
 
     -- the same operations by a path
     alike-path : (os ps : List Op) → os ≡ ps → AlikeOps os ps
@@ -202,8 +202,8 @@ module _ (g : Geometry) where
     unfolding swapOrRevertOps
     alike-swap-or-revert =
         subst (λ (b : Bool). AlikeOps (swapOrRevertOps g f) (pick b (swapOps g h) (revertOps g h ++ finishOps g h)))
-        (ap₂ (λ (st : List ℕ) (n : ℕ). ltb (progress (g .ws) st) (2 * n)) (e .state) same-pages)
-        (alike-pick (ltb (progress (g .ws) (f .state)) (2 * pageCount g f)) alike-swap
+        (ap₂ (λ (st : List ℕ) (n : ℕ). ltb (progress (g .state) st) (2 * n)) (e .state) same-pages)
+        (alike-pick (ltb (progress (g .state) (f .state)) (2 * pageCount g f)) alike-swap
         (alike-append alike-revert _ _ (alike-path (finishOps g f) (finishOps g h) same-finish)))
 
     alike-in : (s : State) → AlikeOps (bootOpsIn s g f) (bootOpsIn s g h)
@@ -211,17 +211,17 @@ module _ (g : Geometry) where
     alike-in Boot = nothing
     alike-in Swap =
         subst (λ (b : Bool). AlikeOps (bootOpsIn Swap g f)
-        (pick b (renewOps (g .es) (g .ws) (length (h .state)) (magic Boot)) (swapOrRevertOps g h)))
+        (pick b (renewOps (g .state) (length (h .state)) (magic Boot)) (swapOrRevertOps g h)))
         same-confirming
-        (alike-pick (confirming (g .ws) (pageCount g f) (f .state)) (alike-path _ _ same-renew) alike-swap-or-revert)
+        (alike-pick (confirming (g .state) (pageCount g f) (f .state)) (alike-path _ _ same-renew) alike-swap-or-revert)
     alike-in Revert = nothing
     alike-in DfuDetach = nothing
 
     alike-boot : AlikeOps (bootOps g f) (bootOps g h)
     unfolding bootOps
     alike-boot =
-        subst (λ (st : List ℕ). AlikeOps (bootOps g f) (bootOpsIn (readState (g .ws) st) g h)) (e .state)
-        (alike-in (readState (g .ws) (f .state)))
+        subst (λ (st : List ℕ). AlikeOps (bootOps g f) (bootOpsIn (readState (g .state) st) g h)) (e .state)
+        (alike-in (readState (g .state) (f .state)))
 
 -- ---- calls
 
@@ -272,38 +272,38 @@ module _ (f h : Flash) (e : Alike f h) where
   unfolding prepareBoot
   same-boot g =
       same-answers (prepareBoot g f) (prepareBoot g h) f h (λ i. bootRefusal g (e .active i) (e .dfu i) (length (e .state i)))
-      (ap (λ (st : List ℕ). some (readState (g .ws) st)) (e .state)) (alike-boot g f h e) e
+      (ap (λ (st : List ℕ). some (readState (g .state) st)) (e .state)) (alike-boot g f h e) e
 
   pub images-aside : ImagesAside f h
   unfolding updaterCall updaterGetState updaterMark updaterMarkUpdated updaterMarkDfu updaterMarkBooted readDfu writeFirmware memory prepareUpdate
   images-aside =
       record {
         boot = same-boot;
-        get-state = λ es ws. of-state (getState es ws);
-        marks = λ s es ws. of-state (mark s es ws);
+        get-state = λ z. of-state (getState z);
+        marks = λ s z. of-state (mark s z);
         updater-get-state = λ z.
-            of-updater (looking z (λ _ _. false) (λ _ _. false) (λ st. some (readState (z .ws) st)) (λ _ _. []));
+            of-updater (looking z (λ _ _. false) (λ _ _. false) (λ st. some (readState (z .state) st)) (λ _ _. []));
         updater-mark-updated = λ z.
             of-updater (looking z (λ _ _. false) (λ _ _. false) (λ _. none)
-            (λ _ st. setMagicOps (z .es) (z .ws) (magic Swap) st));
+            (λ _ st. setMagicOps (z .state) (magic Swap) st));
         updater-mark-dfu = λ z.
             of-updater
-            (looking z (λ _ st. pending (z .ws) st) (λ _ _. false) (λ _. none)
-            (λ _ st. setMagicOps (z .es) (z .ws) (magic DfuDetach) st));
+            (looking z (λ _ st. pending (z .state) st) (λ _ _. false) (λ _. none)
+            (λ _ st. setMagicOps (z .state) (magic DfuDetach) st));
         updater-mark-booted = λ z.
             of-updater (looking z (λ _ _. false) (λ _ _. false) (λ _. none)
-            (λ _ st. setMagicOps (z .es) (z .ws) (magic Boot) st));
+            (λ _ st. setMagicOps (z .state) (magic Boot) st));
         read-dfu = λ z offset n.
             of-updater (looking z (λ _ _. false) (λ ld _. pastEnd ld offset n) (λ _. none) (λ _ _. []));
         write-firmware = λ z m offset bytes.
             of-updater
-            (looking z (λ _ st. pending (z .ws) st) (λ ld _. badRange (z .wd) ld offset (length bytes)) (λ _. none)
+            (looking z (λ _ st. pending (z .state) st) (λ ld _. badRange (z .wd) ld offset (length bytes)) (λ _. none)
             (λ _ _. piecesOps (z .ed) m (pieces (z .ed) offset bytes)));
         prepare-update = λ z.
-            of-updater (looking z (λ _ st. pending (z .ws) st) (λ _ _. false) (λ _. none) (λ ld _. eraseOps (z .ed) dfu 0 ld));
+            of-updater (looking z (λ _ st. pending (z .state) st) (λ _ _. false) (λ _. none) (λ ld _. eraseOps (z .ed) dfu 0 ld));
         remembers = λ k z m offset bytes. λ i.
             pick
-            (eqb (updaterRefusal z (e .dfu i) (length (e .state i)) (pending (z .ws) (e .state i))
+            (eqb (updaterRefusal z (e .dfu i) (length (e .state i)) (pending (z .state) (e .state i))
             (badRange (z .wd) (e .dfu i) offset (length bytes))) 0)
             (remembered (z .ed) (take k (piecesOps (z .ed) m (pieces (z .ed) offset bytes))) m)
             m;

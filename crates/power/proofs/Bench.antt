@@ -5,7 +5,7 @@ use lib.Dec.{lit<, lit≤}
 use Rattle.state.specs.Choice.{pick}
 use Rattle.state.specs.Magic.{erased, marked, magic, throughout, holds, stateOf}
 use Rattle.geometry.specs.Geometry.{page, pages, words}
-use Rattle.geometry.specs.Refusals.{any, rowFrom, lowest, mostNumber, mostLength, badNumber, tooLong, uneven, outside, unevenPage, unevenAreas, badState, otherWords, bootWords, bootNumbers, bootRefusal, stateRefusal}
+use Rattle.geometry.specs.Refusals.{any, number, firstRow, mostNumber, mostLength, badNumber, tooLong, uneven, outside, unevenPage, unevenAreas, badState, otherWords, bootWords, stateNumbers, bootNumbers, bootRefusal, stateRefusal}
 use Rattle.mem_flash.specs.Flash.{programmed, blank, program, erasedAt, writtenAt, change, apply, applyAll, after, unitOps, eraseOps}
 use Rattle.rules.specs.StateArea.{word, readState, valid, markOpen, mostMarks, firstOpen, marksDone, progress, markOp, invalidateOp, magicOp}
 use Rattle.rules.specs.Steps.{toDfu, toActive, swapFrom, revertFrom, swapSteps, revertSteps, sourceOf, unitOf, chunkOps, fillOps, copyOps, onceOps, copiesOps, pageCount, swapOps, revertOps}
@@ -23,7 +23,7 @@ use Rattle.power.proofs.NoPages.{no-pages}
 use Rattle.power.proofs.Confirmed.{confirmed}
 
 ready : Ready (sizes 16) (fresh 15)
-unfolding pick erased magic page pages words any rowFrom lowest mostNumber mostLength badNumber tooLong uneven outside unevenPage unevenAreas badState bootWords bootNumbers bootRefusal pageCount magicArea Fresh sizes fresh filled ff
+unfolding pick erased magic page pages words any number firstRow mostNumber mostLength badNumber tooLong uneven outside unevenPage unevenAreas badState bootWords stateNumbers bootNumbers bootRefusal pageCount magicArea Fresh sizes fresh filled ff
 ready =
     record {
       marked = record { admitted = refl; active-bytes = search (lit<); dfu-bytes = search (lit<); fresh = refl };
@@ -31,7 +31,7 @@ ready =
     }
 
 marked-none : Marked (sizes 3) noPages
-unfolding pick erased magic page pages words any rowFrom lowest mostNumber mostLength badNumber tooLong uneven outside unevenPage unevenAreas badState bootWords bootNumbers bootRefusal pageCount magicArea Fresh sizes noPages filled ff
+unfolding pick erased magic page pages words any number firstRow mostNumber mostLength badNumber tooLong uneven outside unevenPage unevenAreas badState bootWords stateNumbers bootNumbers bootRefusal pageCount magicArea Fresh sizes noPages filled ff
 marked-none = record { admitted = refl; active-bytes = tt; dfu-bytes = search (lit<); fresh = refl }
 
 none : pageCount (sizes 3) noPages ≡ 0
@@ -55,7 +55,7 @@ on-the-bench =
 -- ---- several units
 
 ready-fine : Ready fine (fresh 15)
-unfolding pick erased magic page pages words any rowFrom lowest mostNumber mostLength badNumber tooLong uneven outside unevenPage unevenAreas badState bootWords bootNumbers bootRefusal pageCount magicArea Fresh fine fresh filled ff
+unfolding pick erased magic page pages words any number firstRow mostNumber mostLength badNumber tooLong uneven outside unevenPage unevenAreas badState bootWords stateNumbers bootNumbers bootRefusal pageCount magicArea Fresh fine fresh filled ff
 ready-fine =
     record {
       marked = record { admitted = refl; active-bytes = search (lit<); dfu-bytes = search (lit<); fresh = refl };
@@ -63,7 +63,7 @@ ready-fine =
     }
 
 cases-fine : map computed finely ≡ map told finely
-unfolding pick erased marked magic throughout holds stateOf page pages words any rowFrom lowest mostNumber mostLength badNumber tooLong uneven outside unevenPage unevenAreas badState otherWords bootWords bootNumbers bootRefusal stateRefusal programmed blank program erasedAt writtenAt change apply applyAll after unitOps eraseOps word readState valid markOpen mostMarks firstOpen marksDone progress markOp invalidateOp magicOp toDfu toActive swapFrom revertFrom swapSteps revertSteps sourceOf unitOf chunkOps fillOps copyOps onceOps copiesOps pageCount swapOps revertOps report left renewOps finishOps swapOrRevertOps confirming bootOpsIn bootOps prepareBoot budget call walk computed told done cut magicArea swapMarks swapTable pageAt withPage revertImages reverted revertMarks revertedPart setMagicOps mark voidMarks confirmedPart confirmedWhole ff zeros fresh filled fine fineCase finely
+unfolding pick erased marked magic throughout holds stateOf page pages words any number firstRow mostNumber mostLength badNumber tooLong uneven outside unevenPage unevenAreas badState otherWords bootWords stateNumbers bootNumbers bootRefusal stateRefusal programmed blank program erasedAt writtenAt change apply applyAll after unitOps eraseOps word readState valid markOpen mostMarks firstOpen marksDone progress markOp invalidateOp magicOp toDfu toActive swapFrom revertFrom swapSteps revertSteps sourceOf unitOf chunkOps fillOps copyOps onceOps copiesOps pageCount swapOps revertOps report left renewOps finishOps swapOrRevertOps confirming bootOpsIn bootOps prepareBoot budget call walk computed told done cut magicArea swapMarks swapTable pageAt withPage revertImages reverted revertMarks revertedPart setMagicOps mark voidMarks confirmedPart confirmedWhole ff zeros fresh filled fine fineCase finely
 cases-fine = refl
 
 pub in-units : InUnits
@@ -83,11 +83,11 @@ in-units =
 -- ---- a confirmation that was cut
 
 swapped : Swapped (sizes 16) (swapTable (sizes 16) (fresh 15))
-unfolding pick erased marked magic page pages words any rowFrom lowest mostNumber mostLength badNumber tooLong uneven outside unevenPage unevenAreas badState bootWords bootNumbers bootRefusal pageCount swapMarks swapTable sizes fresh filled ff
+unfolding pick erased marked magic page pages words any number firstRow mostNumber mostLength badNumber tooLong uneven outside unevenPage unevenAreas badState bootWords stateNumbers bootNumbers bootRefusal pageCount swapMarks swapTable sizes fresh filled ff
 swapped = record { admitted = refl; some-page = lit≤ tt; state = refl }
 
 cut-one : CutConfirmation confirmation 1
-unfolding pick erased marked magic throughout page pages words any rowFrom lowest mostNumber mostLength badNumber tooLong uneven outside badState otherWords stateRefusal pageCount unitOps eraseOps word valid report renewOps setMagicOps mark swapMarks swapTable sizes fresh filled ff confirmation
+unfolding pick erased marked magic throughout page pages words any number firstRow mostNumber mostLength badNumber tooLong uneven outside badState stateNumbers otherWords stateRefusal pageCount unitOps eraseOps word valid report renewOps setMagicOps mark swapMarks swapTable sizes fresh filled ff confirmation
 cut-one = record { cut = refl; invalidated = lit≤ tt }
 
 pub unconfirmed : Unconfirmed

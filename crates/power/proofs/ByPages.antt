@@ -22,7 +22,7 @@ use Rattle.power.proofs.Reverts.{Turns}
 use Rattle.power.proofs.Proved.{revertedDfu, turns, power}
 
 module _ (g : Geometry) (f : Flash) (r : Ready g f) where
-  s : Sized g f (words (g .ws) (length (f .state)) - 2)
+  s : Sized g f (words (g .state .ws) (length (f .state)) - 2)
   s = sized g f (r .marked .admitted)
 
   pub swapped-pages : SwappedPages g f (swapTable g f)
@@ -76,7 +76,7 @@ module _ (g : Geometry) (f : Flash) (r : Ready g f) where
     where
       go : (ks : List ℕ) (k : ℕ)
           → Turns g ks k (swapTable g f) (f .active) (revertedDfu g f) (length (f .state))
-          (revertMarks (g .ws) (pageCount g f) (length (f .state)))
+          (revertMarks (g .state) (pageCount g f) (length (f .state)))
           → RevertedPages g f (ran g k (runs g ks (swapTable g f)))
       go ks k (inl e) = subst (RevertedPages g f) (sym (e .1 .flash)) (reverted-pages _)
       go ks k (inr e) = subst (RevertedPages g f) (sym (e .4 .flash)) (reverted-pages _)

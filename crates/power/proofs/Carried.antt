@@ -73,5 +73,5 @@ code-confirms g f s =
     record {
       active = λ m t. ap (λ (y : Flash). y .active) (sym (booted t)) ∙ confirmed g f s _ m _ (was-cut t) .active _;
       dfu = λ m t. ap (λ (y : Flash). y .dfu) (sym (booted t)) ∙ confirmed g f s _ m _ (was-cut t) .dfu _;
-      never = λ m t q. confirmed g f s _ m _ (was-cut t) .never _ (ap (λ (y : Flash). readState (g .ws) (y .state)) (booted t) ∙ q);
+      never = λ m t q. confirmed g f s _ m _ (was-cut t) .never _ (ap (λ (y : Flash). readState (g .state) (y .state)) (booted t) ∙ q);
     }

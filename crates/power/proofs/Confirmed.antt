@@ -15,6 +15,7 @@ use Rattle.state.specs.declared.State.{State}
 use Rattle.state.specs.declared.State.the-variants.{Boot, Swap, Revert}
 use Rattle.state.specs.Choice.{pick}
 use Rattle.state.specs.Magic.{erased, marked, magic, throughout}
+use Rattle.geometry.specs.declared.StateSizes.{StateSizes}
 use Rattle.geometry.specs.declared.Geometry.{Geometry}
 use Rattle.geometry.specs.Geometry.{words}
 use Rattle.mem_flash.specs.Flash.{Flash, Op, blank, writtenAt, applyAll, after}
@@ -48,7 +49,7 @@ module _ (g : Geometry) (f : Flash) (s : Swapped g f) where
   S = length (f .state)
 
   abbrev t : ℕ
-  t = words (g .ws) S - 2
+  t = words (g .state .ws) S - 2
 
   abbrev U : ℕ
   U = stateUnits g f
@@ -58,22 +59,22 @@ module _ (g : Geometry) (f : Flash) (s : Swapped g f) where
 
   -- the marks that are void
   abbrev st₀ : List ℕ
-  st₀ = voidMarks (g .ws) (2 * N) S
+  st₀ = voidMarks (g .state) (2 * N) S
 
   room : 0 < t - 2 * N
   room = omega (arith, z .room)
 
-  void-is : spread (g .ws) (markWords marked (2 * N) (t - 2 * N)) ≡ st₀
-  void-is = void-marks (g .ws) (2 * N) t (omega (arith, z .room)) ∙ ap (voidMarks (g .ws) (2 * N)) (sym (z .state))
+  void-is : spread (g .state .ws) (markWords marked (2 * N) (t - 2 * N)) ≡ st₀
+  void-is = void-marks (g .state) (2 * N) t (omega (arith, z .room)) ∙ ap (voidMarks (g .state) (2 * N)) (sym (z .state))
 
-  swapped-is : f .state ≡ spread (g .ws) (markWords erased (2 * N) (t - 2 * N))
+  swapped-is : f .state ≡ spread (g .state .ws) (markWords erased (2 * N) (t - 2 * N))
   swapped-is =
-      s .state ∙ ap (swapMarks (g .ws) N) (z .state) ∙ sym (swapped-marks (g .ws) N t (omega (arith, z .room)))
+      s .state ∙ ap (swapMarks (g .state) N) (z .state) ∙ sym (swapped-marks (g .state) N t (omega (arith, z .room)))
 
   void-size : length st₀ ≡ S
   void-size =
       let e : length (markWords marked (2 * N) (t - 2 * N)) ≡ 2 + t = omega (arith, z .room, length-marks marked (2 * N) (t - 2 * N)) in
-      ap length (sym void-is) ∙ length-spread (g .ws) (markWords marked (2 * N) (t - 2 * N)) ∙ ap (λ (i : ℕ). i * g .ws) e
+      ap length (sym void-is) ∙ length-spread (g .state .ws) (markWords marked (2 * N) (t - 2 * N)) ∙ ap (λ (i : ℕ). i * g .state .ws) e
       ∙ sym (z .state)
 
   -- ---- no unit is erased yet
@@ -83,54 +84,54 @@ module _ (g : Geometry) (f : Flash) (s : Swapped g f) where
 
   part-none : confirmedPart g 0 f ≡ begun
   unfolding confirmedPart closed blank
-  part-none = ap (λ (n : ℕ). closed (f .active) (f .dfu) (blank n st₀)) (zero-mul (g .es))
+  part-none = ap (λ (n : ℕ). closed (f .active) (f .dfu) (blank n st₀)) (zero-mul (g .state .es))
 
-  begun-reads : readState (g .ws) (begun .state) ≡ Swap
+  begun-reads : readState (g .state) (begun .state) ≡ Swap
   unfolding closed
-  begun-reads = ap (readState (g .ws)) (sym void-is) ∙ reads-swap (g .ws) (z .ws) marked (2 * N) (t - 2 * N) room
+  begun-reads = ap (readState (g .state)) (sym void-is) ∙ reads-swap (g .state) (z .ws) marked (2 * N) (t - 2 * N) room
 
-  begun-pending : confirming (g .ws) (pageCount g begun) (begun .state) ≡ true
+  begun-pending : confirming (g .state) (pageCount g begun) (begun .state) ≡ true
   unfolding closed pageCount
   begun-pending =
-      let d : marksDone (g .ws) (spread (g .ws) (markWords marked (2 * N) (t - 2 * N))) ≡ 2 * N =
-      done-marks (g .ws) (z .ws) marked (2 * N) (t - 2 * N) room in
-      subst (λ (st : List ℕ). confirming (g .ws) N st ≡ true) void-is
-      (confirming-swapped (g .ws) N (spread (g .ws) (markWords marked (2 * N) (t - 2 * N)))
-      (marks-void (g .ws) (z .ws) (2 * N) (t - 2 * N) room) (omega (arith, d)) (omega (arith, d, s .some-page)))
+      let d : marksDone (g .state) (spread (g .state .ws) (markWords marked (2 * N) (t - 2 * N))) ≡ 2 * N =
+      done-marks (g .state) (z .ws) marked (2 * N) (t - 2 * N) room in
+      subst (λ (st : List ℕ). confirming (g .state) N st ≡ true) void-is
+      (confirming-swapped (g .state) N (spread (g .state .ws) (markWords marked (2 * N) (t - 2 * N)))
+      (marks-void (g .state) (z .ws) (2 * N) (t - 2 * N) room) (omega (arith, d)) (omega (arith, d, s .some-page)))
 
-  begun-wants : bootOps g begun ≡ renewOps (g .es) (g .ws) S (magic Boot)
+  begun-wants : bootOps g begun ≡ renewOps (g .state) S (magic Boot)
   unfolding closed
   begun-wants =
-      wants-renewal g begun begun-reads begun-pending ∙ ap (λ (n : ℕ). renewOps (g .es) (g .ws) n (magic Boot)) void-size
+      wants-renewal g begun begun-reads begun-pending ∙ ap (λ (n : ℕ). renewOps (g .state) n (magic Boot)) void-size
 
   begun-count : length (bootOps g begun) ≡ 1 + U
   unfolding stateUnits
-  begun-count = ap length begun-wants ∙ renew-count (g .es) (g .ws) S (magic Boot)
+  begun-count = ap length begun-wants ∙ renew-count (g .state) S (magic Boot)
 
   -- a boot from there, cut after k units, and whole
   begun-cut : (k : ℕ) → k ≤ U → after k (bootOps g begun) begun ≡ confirmedPart g k f
   unfolding confirmedPart closed stateUnits
   begun-cut k h =
       ap (λ (os : List Op). after k os begun) begun-wants
-      ∙ renew-part (f .active) (f .dfu) (g .es) (g .ws) S (magic Boot) k st₀ h
+      ∙ renew-part (f .active) (f .dfu) (g .state) S (magic Boot) k st₀ h
 
   begun-whole : (k : ℕ) → length (bootOps g begun) ≤ k → after k (bootOps g begun) begun ≡ confirmedWhole g f
   unfolding confirmedWhole closed
   begun-whole k h =
       after-all k (bootOps g begun) begun h ∙ ap (λ (os : List Op). applyAll os begun) begun-wants
-      ∙ renewed (f .active) (f .dfu) Boot (g .es) (g .ws) S st₀ (z .units) void-size (omega (arith, z .state))
+      ∙ renewed (f .active) (f .dfu) Boot (g .state) S st₀ (z .units) void-size (omega (arith, z .state))
 
   -- ---- units are erased, or the Boot magic is written
 
-  part-boot : (u : ℕ) → 1 ≤ u → u ≤ U → readState (g .ws) (confirmedPart g u f .state) ≡ Boot
+  part-boot : (u : ℕ) → 1 ≤ u → u ≤ U → readState (g .state) (confirmedPart g u f .state) ≡ Boot
   unfolding confirmedPart stateUnits
   part-boot u one most =
-      blank-boot (g .ws) (u * g .es) st₀ (z .ws) (omega (arith, mul-le-mul-right (g .es) one, z .unit))
-      (omega (arith, mul-le-mul-right (g .es) most, z .units, void-size))
+      blank-boot (g .state) (u * g .state .es) st₀ (z .ws) (omega (arith, mul-le-mul-right (g .state .es) one, z .unit))
+      (omega (arith, mul-le-mul-right (g .state .es) most, z .units, void-size))
 
-  whole-boot : readState (g .ws) (confirmedWhole g f .state) ≡ Boot
+  whole-boot : readState (g .state) (confirmedWhole g f .state) ≡ Boot
   unfolding confirmedWhole
-  whole-boot = area-reads Boot (g .ws) S (boot-reads (g .ws) (z .ws))
+  whole-boot = area-reads Boot (g .state) S (boot-reads (g .state .ws) (z .ws))
 
   -- ---- any budgets
 
@@ -138,14 +139,14 @@ module _ (g : Geometry) (f : Flash) (s : Swapped g f) where
     part : (u : ℕ) → u ≤ U → x ≡ confirmedPart g u f → Midway x
     whole : x ≡ confirmedWhole g f → Midway x
 
-  ran-idle : (x : Flash) → Admits g x → readState (g .ws) (x .state) ≡ Boot → (k : ℕ) → ran g k x ≡ x
+  ran-idle : (x : Flash) → Admits g x → readState (g .state) (x .state) ≡ Boot → (k : ℕ) → ran g k x ≡ x
   ran-idle x a e k = ran-after g k x a ∙ ap (λ (os : List Op). after k os x) (wants-none g x e) ∙ after-none k x
 
   ran-begun : (x : Flash) → Admits g x → x ≡ confirmedPart g 0 f → (k : ℕ) → ran g k x ≡ after k (bootOps g begun) begun
   ran-begun x a e k = ran-after g k x a ∙ ap (λ (y : Flash). after k (bootOps g y) y) (e ∙ part-none)
 
-  reads-at : (x y : Flash) → x ≡ y → readState (g .ws) (x .state) ≡ readState (g .ws) (y .state)
-  reads-at x y e = ap (λ (w : Flash). readState (g .ws) (w .state)) e
+  reads-at : (x y : Flash) → x ≡ y → readState (g .state) (x .state) ≡ readState (g .state) (y .state)
+  reads-at x y e = ap (λ (w : Flash). readState (g .state) (w .state)) e
 
   kept : (x : Flash) → Admits g x → Midway x → (k : ℕ) → Midway (ran g k x)
   kept x a (part zero most e) k = go (decLe k U)
@@ -172,7 +173,7 @@ module _ (g : Geometry) (f : Flash) (s : Swapped g f) where
   place-dfu x (part u most e) = ap (λ (y : Flash). y .dfu) e
   place-dfu x (whole e) = ap (λ (y : Flash). y .dfu) e
 
-  place-reads : (x : Flash) → Midway x → readState (g .ws) (x .state) ≡ Revert → ⊥
+  place-reads : (x : Flash) → Midway x → readState (g .state) (x .state) ≡ Revert → ⊥
   place-reads x (part zero most e) r = no-revert _ (inl (reads-at x begun (e ∙ part-none) ∙ begun-reads)) r
   place-reads x (part (suc u) most e) r =
       no-revert _ (inr (reads-at x (confirmedPart g (suc u) f) e ∙ part-boot (suc u) (omega arith) most)) r
@@ -221,7 +222,7 @@ module _ (g : Geometry) (f : Flash) (s : Swapped g f) where
   rest : (y : Flash) (j u : ℕ) → Admits g y → y ≡ confirmedPart g u f → 1 ≤ u → u ≤ U
       → (answer g j y ≡ record { number = 0; state = some Boot; count = 0 }) × (ran g j y ≡ confirmedPart g u f)
   rest y j u a e one most =
-      let r : readState (g .ws) (y .state) ≡ Boot = reads-at y (confirmedPart g u f) e ∙ part-boot u one most in
+      let r : readState (g .state) (y .state) ≡ Boot = reads-at y (confirmedPart g u f) e ∙ part-boot u one most in
       let n : length (bootOps g y) ≡ 0 = ap length (wants-none g y r) in (
         answer-done g j y a (omega (arith, n))
             ∙ ap₂ (λ (r : State) (n : ℕ). record { number = 0; state = some r; count = n }) r n,
@@ -250,25 +251,25 @@ module _ (g : Geometry) (f : Flash) (s : Swapped g f) where
 
   -- ---- mark_booted, cut after its invalidation
 
-  mark-wants : setMagicOps (g .es) (g .ws) (magic Boot) (f .state) ≡ invalidateOp (g .ws) ∷ renewOps (g .es) (g .ws) S (magic Boot)
+  mark-wants : setMagicOps (g .state) (magic Boot) (f .state) ≡ invalidateOp (g .state) ∷ renewOps (g .state) S (magic Boot)
   unfolding setMagicOps pick
   mark-wants =
-      ap₂ (λ (a b : Bool). pick a [] (pick b (invalidateOp (g .ws) ∷ []) [] ++ renewOps (g .es) (g .ws) S (magic Boot)))
-      (ap (λ (st : List ℕ). throughout (magic Boot) (word (g .ws) 0 st)) swapped-is
-      ∙ not-booted (g .ws) (z .ws) erased (2 * N) (t - 2 * N) room)
-      (ap (valid (g .ws)) swapped-is ∙ marks-valid (g .ws) (z .ws) (2 * N) (t - 2 * N) room)
+      ap₂ (λ (a b : Bool). pick a [] (pick b (invalidateOp (g .state) ∷ []) [] ++ renewOps (g .state) S (magic Boot)))
+      (ap (λ (st : List ℕ). throughout (magic Boot) (word (g .state) 0 st)) swapped-is
+      ∙ not-booted (g .state) (z .ws) erased (2 * N) (t - 2 * N) room)
+      (ap (valid (g .state)) swapped-is ∙ marks-valid (g .state) (z .ws) (2 * N) (t - 2 * N) room)
 
-  invalid-is : writtenAt (g .ws) (replicate (g .ws) marked) (f .state) ≡ st₀
+  invalid-is : writtenAt (g .state .ws) (replicate (g .state .ws) marked) (f .state) ≡ st₀
   invalid-is =
-      ap (writtenAt (g .ws) (replicate (g .ws) marked)) swapped-is ∙ void-written (g .ws) erased (2 * N) (t - 2 * N) ∙ void-is
+      ap (writtenAt (g .state .ws) (replicate (g .state .ws) marked)) swapped-is ∙ void-written (g .state .ws) erased (2 * N) (t - 2 * N) ∙ void-is
 
-  module _ (c : Call) (table : c .refusal < 7) (ops : c .ops ≡ setMagicOps (g .es) (g .ws) (magic Boot) (f .state)) where
+  module _ (c : Call) (table : c .refusal < 7) (ops : c .ops ≡ setMagicOps (g .state) (magic Boot) (f .state)) where
     confirm-cut : (k : ℕ) → CutConfirmation c k → Erased (left c k f) (k - 1)
     unfolding closed confirmedPart stateUnits
     confirm-cut k h =
         let d = is-cut c table k (ending c k) (h .cut) in
         let n : length (c .ops) ≡ 2 + U =
-        ap length (ops ∙ mark-wants) ∙ omega (arith, renew-count (g .es) (g .ws) S (magic Boot)) in
+        ap length (ops ∙ mark-wants) ∙ omega (arith, renew-count (g .state) S (magic Boot)) in
         let most : k - 1 ≤ U = omega (arith, d .1) in
         let e : k ≡ suc (k - 1) = omega (arith, h .invalidated) in
         let leaves : left c k f ≡ after k (c .ops) f = left-admitted c k f (d .0) in
@@ -277,16 +278,16 @@ module _ (g : Geometry) (f : Flash) (s : Swapped g f) where
           same =
               leaves
               ∙ ap₂ (λ (i : ℕ) (os : List Op). after i os f) e (ops ∙ mark-wants)
-              ∙ void-part (f .active) (f .dfu) (g .es) (g .ws) S (magic Boot) (k - 1) (f .state) most
-              ∙ ap (λ (st : List ℕ). closed (f .active) (f .dfu) (blank ((k - 1) * g .es) st)) invalid-is;
+              ∙ void-part (f .active) (f .dfu) (g .state) S (magic Boot) (k - 1) (f .state) most
+              ∙ ap (λ (st : List ℕ). closed (f .active) (f .dfu) (blank ((k - 1) * g .state .es) st)) invalid-is;
           admits = subst (Admits g) (sym leaves) (admits-after g k f (s .admitted) (c .ops));
         }
 
 pub confirmed : (g : Geometry) (f : Flash) → Confirming g f
 unfolding mark updaterCall updaterMark updaterMarkBooted
 confirmed g f s c firmware-state k h =
-    confirms g f s (left c k f) (k - 1) (confirm-cut g f s c (state-rows (g .es) (g .ws) _) refl k h)
-confirmed g f s c (updater z es ws) k h =
+    confirms g f s (left c k f) (k - 1) (confirm-cut g f s c (state-rows (g .state) _) refl k h)
+confirmed g f s c (updater z e) k h =
     confirms g f s (left c k f) (k - 1)
     (confirm-cut g f s c (updater-rows z _ _ _ _)
-    (ap₂ (λ (a b : ℕ). setMagicOps a b (magic Boot) (f .state)) es ws) k h)
+    (ap (λ (y : StateSizes). setMagicOps y (magic Boot) (f .state)) e) k h)

@@ -14,10 +14,11 @@ use Rattle.state.specs.declared.State.{State}
 use Rattle.state.specs.declared.State.the-variants.{Boot, Swap, Revert, DfuDetach}
 use Rattle.state.specs.Choice.{pick}
 use Rattle.state.specs.Magic.{magic}
+use Rattle.geometry.specs.declared.StateSizes.{StateSizes}
 use Rattle.geometry.specs.declared.Geometry.{Geometry}
 use Rattle.geometry.specs.declared.Sizes.{Sizes}
 use Rattle.geometry.specs.Geometry.{page, pages}
-use Rattle.geometry.specs.Refusals.{any, mostLength, uneven, outside, stateRefusal, updaterRefusal, lowest}
+use Rattle.geometry.specs.Refusals.{any, mostLength, uneven, outside, stateRefusal, stateNumbers, updaterNumbers, updaterRows, updaterRefusal}
 use Rattle.geometry.proofs.Rows.{admitted, updater-admits}
 use Rattle.geometry.proofs.Tests.{any-none, row-none, length-in, even-times, page-some}
 use Rattle.mem_flash.specs.Flash.{Area, active, dfu, state, Flash, Op, erase, write, applyAll}
@@ -91,8 +92,8 @@ module _ (g : Geometry) (f : Flash) where
   unfolding bootOpsIn swapOrRevertOps stateUnits
   boot-in-most Boot = zero-le
   boot-in-most Swap =
-      pick-count _ (renewOps (g .es) (g .ws) (length (f .state)) (magic Boot)) (swapOrRevertOps g f) _
-      (omega (arith, renew-count (g .es) (g .ws) (length (f .state)) (magic Boot)))
+      pick-count _ (renewOps (g .state) (length (f .state)) (magic Boot)) (swapOrRevertOps g f) _
+      (omega (arith, renew-count (g .state) (length (f .state)) (magic Boot)))
       (pick-count _ (swapOps g f) (revertOps g f ++ finishOps g f) _ swap-most revert-most)
   boot-in-most Revert = zero-le
   boot-in-most DfuDetach = zero-le
@@ -107,7 +108,7 @@ module _ (g : Geometry) (f : Flash) where
   unfolding prepareBoot pageCount pages stepCost dearerCost stateUnits mostLength
   boot-count r =
       let a = admitted g (length (f .active)) (length (f .dfu)) (length (f .state)) r in
-      let p : 0 < page g = page-some g (a .numbers) in
+      let p : 0 < page g = page-some (a .numbers) in
       let whole : length (f .active) / page g * page g ≡ length (f .active) =
       even-times (length (f .active)) (page g) (a .active-pages) in
       let step : dearerCost g ≤ 3 * page g =
@@ -118,27 +119,27 @@ module _ (g : Geometry) (f : Flash) where
         div-le-self (page g) (unitOf g active),
       ) in
       let all : N * dearerCost g ≤ N * (3 * page g) = mul-le-mul-left N step in
-      omega (arith, boot-most, a .active-most, a .state-most, div-le-self (length (f .state)) (g .es))
+      omega (arith, boot-most, a .active-most, a .state-most, div-le-self (length (f .state)) (g .state .es))
 
 -- ---- marks: invalidate, erase, write
 
-marks-most : (es ws m : ℕ) (st : List ℕ) → length (setMagicOps es ws m st) ≤ 2 + length st
+marks-most : (z : StateSizes) (m : ℕ) (st : List ℕ) → length (setMagicOps z m st) ≤ 2 + length st
 unfolding setMagicOps
-marks-most es ws m st =
-    pick-count _ [] (pick (valid ws st) (invalidateOp ws ∷ []) [] ++ renewOps es ws (length st) m) (2 + length st) zero-le
+marks-most z m st =
+    pick-count _ [] (pick (valid z st) (invalidateOp z ∷ []) [] ++ renewOps z (length st) m) (2 + length st) zero-le
     (omega (
       arith,
-      length-append (pick (valid ws st) (invalidateOp ws ∷ []) []) (renewOps es ws (length st) m),
-      pick-count (valid ws st)
-          (invalidateOp ws ∷ []) [] 1 (omega arith) zero-le,
-      renew-count es ws (length st) m,
-      div-le-self (length st) es,
+      length-append (pick (valid z st) (invalidateOp z ∷ []) []) (renewOps z (length st) m),
+      pick-count (valid z st)
+          (invalidateOp z ∷ []) [] 1 (omega arith) zero-le,
+      renew-count z (length st) m,
+      div-le-self (length st) (z .es),
     ))
 
-state-most : (es ws ls : ℕ) → stateRefusal es ws ls ≡ 0 → ls ≤ mostLength
-unfolding stateRefusal lowest outside
-state-most es ws ls r =
-    let a = any-none _ _ (row-none _ _ _ (lit< tt) r .0) in
+state-most : (z : StateSizes) (ls : ℕ) → stateRefusal z ls ≡ 0 → ls ≤ mostLength
+unfolding stateRefusal outside stateNumbers
+state-most z ls r =
+    let a = any-none _ _ (row-none _ _ _ r .0) in
     let b = any-none _ _ (a .1) in
     length-in _ (any-none _ _ (b .1) .0)
 
@@ -149,9 +150,9 @@ record Lengths (ld ls : ℕ) (range : Bool) : Type 0 where
   inside : range ≡ false
 
 lengths : (z : Sizes) (ld ls : ℕ) (swap range : Bool) → updaterRefusal z ld ls swap range ≡ 0 → Lengths ld ls range
-unfolding updaterRefusal lowest outside
+unfolding updaterRefusal updaterRows outside updaterNumbers stateNumbers
 lengths z ld ls swap range r =
-    let a = row-none _ _ _ (lit< tt) r in
+    let a = row-none _ _ _ r in
     let i = any-none _ _ (a .0) in
     let j = any-none _ _ (i .1) in
     let k = any-none _ _ (j .1) in
@@ -163,9 +164,9 @@ lengths z ld ls swap range r =
       inside = updater-admits z ld ls swap range r .1;
     }
 
-marks-count : (es ws m : ℕ) (st : List ℕ) → length st ≤ mostLength → length (setMagicOps es ws m st) < 4294967296
+marks-count : (z : StateSizes) (m : ℕ) (st : List ℕ) → length st ≤ mostLength → length (setMagicOps z m st) < 4294967296
 unfolding mostLength
-marks-count es ws m st h = omega (arith, marks-most es ws m st)
+marks-count z m st h = omega (arith, marks-most z m st)
 
 -- ---- write_firmware: a piece has a byte or more, and takes an erase and a write
 
@@ -230,10 +231,10 @@ unfolding mark updaterCall updaterMark updaterMarkUpdated updaterMarkDfu updater
 every-count =
     record {
       boot = boot-count;
-      marks = λ s es ws st r. marks-count es ws (magic s) st (state-most es ws (length st) r);
-      updater-mark-updated = λ z f r. marks-count (z .es) (z .ws) (magic Swap) (f .state) (lengths z _ _ _ _ r .state);
-      updater-mark-dfu = λ z f r. marks-count (z .es) (z .ws) (magic DfuDetach) (f .state) (lengths z _ _ _ _ r .state);
-      updater-mark-booted = λ z f r. marks-count (z .es) (z .ws) (magic Boot) (f .state) (lengths z _ _ _ _ r .state);
+      marks = λ s z st r. marks-count z (magic s) st (state-most z (length st) r);
+      updater-mark-updated = λ z f r. marks-count (z .state) (magic Swap) (f .state) (lengths z _ _ _ _ r .state);
+      updater-mark-dfu = λ z f r. marks-count (z .state) (magic DfuDetach) (f .state) (lengths z _ _ _ _ r .state);
+      updater-mark-booted = λ z f r. marks-count (z .state) (magic Boot) (f .state) (lengths z _ _ _ _ r .state);
       write-firmware = write-count;
       prepare-update = prepare-count;
     }

@@ -47,8 +47,8 @@ unfolding prepareBoot getState mark updaterCall updaterGetState updaterMark upda
 every-call =
     record {
       boot = λ g f. lawful _ (boot-rows g _ _ _);
-      get-state = λ es ws st. lawful _ (state-rows es ws _);
-      marks = λ s es ws st. lawful _ (state-rows es ws _);
+      get-state = λ z st. lawful _ (state-rows z _);
+      marks = λ s z st. lawful _ (state-rows z _);
       updater-get-state = λ z f. lawful _ (updater-rows z _ _ _ _);
       updater-mark-updated = λ z f. lawful _ (updater-rows z _ _ _ _);
       updater-mark-dfu = λ z f. lawful _ (updater-rows z _ _ _ _);

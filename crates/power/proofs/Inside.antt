@@ -92,7 +92,7 @@ record Lies (g : Geometry) (f : Flash) (c : Copy) : Type 0 where
   image : Image (c .to)
   source : c .source * page g + page g ≤ length (sourceOf (c .to) f)
   target : c .target * page g + page g ≤ length (areaOf (c .to) f)
-  mark : (2 + c .mark) * g .ws + g .ws ≤ length (f .state)
+  mark : (2 + c .mark) * g .state .ws + g .state .ws ≤ length (f .state)
 
 abbrev AllLie : Geometry → Flash → List Copy → Type 0
 AllLie g f [] = Unit {0}
@@ -112,13 +112,13 @@ module _ (g : Geometry) (f : Flash) (ad : Admitted g (length (f .active)) (lengt
   units dfu i = (ad .page-ed, ad .page-wd, ad .chunk-wd)
   units state i = absurd i
 
-  word-within : (i : ℕ) (v : ℕ) → i * g .ws + g .ws ≤ length (f .state)
-      → Within g f (write state (i * g .ws) (replicate (g .ws) v))
+  word-within : (i : ℕ) (v : ℕ) → i * g .state .ws + g .state .ws ≤ length (f .state)
+      → Within g f (write state (i * g .state .ws) (replicate (g .state .ws) v))
   unfolding writeUnit areaOf
   word-within i v h =
-      subst (λ (n : ℕ). Aligned (g .ws) (i * g .ws) n (length (f .state))) (sym (length-replicate (g .ws) v))
-      (aligned (g .ws) (i * g .ws) (g .ws) (length (f .state)) (even-many (g .ws) (g .ws) i (mod-self (g .ws)))
-      (mod-self (g .ws)) h)
+      subst (λ (n : ℕ). Aligned (g .state .ws) (i * g .state .ws) n (length (f .state))) (sym (length-replicate (g .state .ws) v))
+      (aligned (g .state .ws) (i * g .state .ws) (g .state .ws) (length (f .state)) (even-many (g .state .ws) (g .state .ws) i (mod-self (g .state .ws)))
+      (mod-self (g .state .ws)) h)
 
   copy-within : (c : Copy) (h : Flash) → SameLengths h f → Lies g f c → AllWithin g f (copyOps g c h)
   unfolding copyOps fillOps markOp
@@ -138,7 +138,7 @@ module _ (g : Geometry) (f : Flash) (ad : Admitted g (length (f .active)) (lengt
   copies-within [] h l at = none
   copies-within (c ∷ cs) h l at =
       let e = all-lengths (onceOps g c h) h in
-      within-append (within-pick (leb (progress (g .ws) (h .state)) (c .mark)) (copy-within c h l (at .0)) none)
+      within-append (within-pick (leb (progress (g .state) (h .state)) (c .mark)) (copy-within c h l (at .0)) none)
       (copies-within cs (applyAll (onceOps g c h) h)
       (record { active = e .active ∙ l .active; dfu = e .dfu ∙ l .dfu; state = e .state ∙ l .state }) (at .1))
 
@@ -151,18 +151,18 @@ module _ (g : Geometry) (f : Flash) (ad : Admitted g (length (f .active)) (lengt
   unfolding pageCount pages
   active-length = even-times (length (f .active)) (page g) (ad .active-pages)
 
-  state-length : words (g .ws) (length (f .state)) * g .ws ≡ length (f .state)
+  state-length : words (g .state .ws) (length (f .state)) * g .state .ws ≡ length (f .state)
   unfolding words
   state-length =
-      div-mul-cancel (g .ws)
-      (dvd-trans (g .ws) (dvd-of-mod-eq-zero (g .ws) (ad .unit-words)) (dvd-of-mod-eq-zero (g .es) (ad .state-units)))
+      div-mul-cancel (g .state .ws)
+      (dvd-trans (g .state .ws) (dvd-of-mod-eq-zero (g .state .ws) (ad .unit-words)) (dvd-of-mod-eq-zero (g .state .es) (ad .state-units)))
 
   -- word i is there for every i below 4N + 3
-  word-there : (i : ℕ) → i < bootWords N → i * g .ws + g .ws ≤ length (f .state)
+  word-there : (i : ℕ) → i < bootWords N → i * g .state .ws + g .state .ws ≤ length (f .state)
   unfolding pageCount
   word-there i h =
-      let w : i < words (g .ws) (length (f .state)) = omega (arith, ad .state-words) in
-      omega (arith, pages-le (g .ws) w, state-length)
+      let w : i < words (g .state .ws) (length (f .state)) = omega (arith, ad .state-words) in
+      omega (arith, pages-le (g .state .ws) w, state-length)
 
   module _ (k : ℕ) (h : k < N) (i : ℕ) (m : i < 4 * N) where
     inside-active : k * page g + page g ≤ length (f .active)
@@ -171,7 +171,7 @@ module _ (g : Geometry) (f : Flash) (ad : Admitted g (length (f .active)) (lengt
     inside-dfu : (k + 1) * page g + page g ≤ length (f .dfu)
     inside-dfu = omega (arith, inside-active, ad .dfu-longer)
 
-    mark-there : (2 + i) * g .ws + g .ws ≤ length (f .state)
+    mark-there : (2 + i) * g .state .ws + g .state .ws ≤ length (f .state)
     unfolding bootWords
     mark-there = word-there (2 + i) (omega arith)
 
@@ -216,21 +216,21 @@ module _ (g : Geometry) (f : Flash) (ad : Admitted g (length (f .active)) (lengt
     ),
   )
 
-  renew-within : (m : ℕ) → AllWithin g f (renewOps (g .es) (g .ws) (length (f .state)) m)
+  renew-within : (m : ℕ) → AllWithin g f (renewOps (g .state) (length (f .state)) m)
   unfolding renewOps magicOp bootWords unitOf areaOf
   renew-within m =
-      let sign : Within g f (magicOp (g .ws) m) =
-      subst (λ (i : ℕ). Within g f (write state i (replicate (g .ws) m))) (zero-mul (g .ws))
+      let sign : Within g f (magicOp (g .state) m) =
+      subst (λ (i : ℕ). Within g f (write state i (replicate (g .state .ws) m))) (zero-mul (g .state .ws))
       (word-within 0 m (word-there 0 (omega arith))) in
       within-append
-      (erase-within g f state 0 (length (f .state)) (mod-eq-zero-of-dvd (g .es) (dvd-zero (g .es))) (omega arith))
+      (erase-within g f state 0 (length (f .state)) (mod-eq-zero-of-dvd (g .state .es) (dvd-zero (g .state .es))) (omega arith))
       (one sign none)
 
   finish-within : AllWithin g f (finishOps g f)
   unfolding finishOps invalidateOp bootWords
   finish-within =
-      let void : Within g f (invalidateOp (g .ws)) =
-      subst (λ (i : ℕ). Within g f (write state i (replicate (g .ws) marked))) (one-mul (g .ws))
+      let void : Within g f (invalidateOp (g .state)) =
+      subst (λ (i : ℕ). Within g f (write state i (replicate (g .state .ws) marked))) (one-mul (g .state .ws))
       (word-within 1 marked (word-there 1 (omega arith))) in
       one void (renew-within (magic Revert))
 
@@ -241,8 +241,8 @@ module _ (g : Geometry) (f : Flash) (ad : Admitted g (length (f .active)) (lengt
   unfolding bootOpsIn swapOrRevertOps swapOps swapSteps revertOps revertSteps
   in-within Boot = none
   in-within Swap =
-      within-pick (confirming (g .ws) N (f .state)) (renew-within (magic Boot))
-      (within-pick (ltb (progress (g .ws) (f .state)) (2 * pageCount g f))
+      within-pick (confirming (g .state) N (f .state)) (renew-within (magic Boot))
+      (within-pick (ltb (progress (g .state) (f .state)) (2 * pageCount g f))
       (copies-within (swapFrom N 0) f same (swap-lies N 0 (omega arith) (omega arith)))
       (within-append (copies-within (revertFrom N 0 (2 * N)) f same
       (revert-lies N 0 (2 * N) (omega arith) (omega arith))) finish-within))

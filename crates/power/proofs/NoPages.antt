@@ -64,10 +64,10 @@ module _ (g : Geometry) (f : Flash) (m : Marked g f) (none : pageCount g f ≡ 0
       ∙ finish-count g f
 
   turns-none : (ks : List ℕ) (k : ℕ) → FirstWhole g ks k f
-      → Turns g ks k f (f .active) (f .dfu) (length (f .state)) (revertMarks (g .ws) 0 (length (f .state)))
+      → Turns g ks k f (f .active) (f .dfu) (length (f .state)) (revertMarks (g .state) 0 (length (f .state)))
   turns-none ks k =
       subst₂ (λ (x : Flash) (n : ℕ). FirstWhole g ks k x
-      → Turns g ks k x (f .active) (f .dfu) (length (f .state)) (revertMarks (g .ws) n (length (f .state)))) already none
+      → Turns g ks k x (f .active) (f .dfu) (length (f .state)) (revertMarks (g .state) n (length (f .state)))) already none
       (turns-back g f m (f .dfu) stays ks k)
 
   pub no-pages : NoPages g f

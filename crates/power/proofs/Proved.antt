@@ -33,7 +33,7 @@ abbrev pub revertedDfu : Geometry → Flash → List ℕ
 revertedDfu g f = withPage (page g) (pageCount g f) (pageAt (page g) (pageCount g f - 1) (f .active)) (f .dfu)
 
 module _ (g : Geometry) (f : Flash) (r : Ready g f) where
-  s : Sized g f (words (g .ws) (length (f .state)) - 2)
+  s : Sized g f (words (g .state .ws) (length (f .state)) - 2)
   s = sized g f (r .marked .admitted)
 
   end : mix (page g) (pageCount g f) (f .dfu) (newDfu (page g) (f .active) (f .dfu)) ≡ revertedDfu g f
@@ -41,14 +41,14 @@ module _ (g : Geometry) (f : Flash) (r : Ready g f) where
 
   pub turns : (ks : List ℕ) (k : ℕ) → FirstWhole g ks k (swapTable g f)
       → Turns g ks k (swapTable g f) (f .active) (revertedDfu g f) (length (f .state))
-      (revertMarks (g .ws) (pageCount g f) (length (f .state)))
+      (revertMarks (g .state) (pageCount g f) (length (f .state)))
   turns = turns-back g f (r .marked) (revertedDfu g f) end
 
   -- the marks fill the state area
-  marks-size : length (revertMarks (g .ws) (pageCount g f) (length (f .state))) ≡ length (f .state)
+  marks-size : length (revertMarks (g .state) (pageCount g f) (length (f .state))) ≡ length (f .state)
   marks-size =
-      subst (λ (n : ℕ). length (revertMarks (g .ws) (pageCount g f) n) ≡ n) (sym (s .state))
-      (reverted-size (g .ws) (pageCount g f) (words (g .ws) (length (f .state)) - 2) (omega (arith, s .room)))
+      subst (λ (n : ℕ). length (revertMarks (g .state) (pageCount g f) n) ≡ n) (sym (s .state))
+      (reverted-size (g .state) (pageCount g f) (words (g .state .ws) (length (f .state)) - 2) (omega (arith, s .room)))
 
   pub power : Power g f
   unfolding reverted revertedPart revertedErased revertImages stateUnits closed
@@ -62,8 +62,8 @@ module _ (g : Geometry) (f : Flash) (r : Ready g f) where
             rested g ks k (swapTable g f) (f .active) (revertedDfu g f) (length (f .state)) _ (turns ks k w) n one most o;
         erased-whole =
             ap (closed (f .active) (revertedDfu g f))
-            (ap (λ (n : ℕ). blank n (revertMarks (g .ws) (pageCount g f) (length (f .state)))) (s .units)
-            ∙ blank-all (length (f .state)) (revertMarks (g .ws) (pageCount g f) (length (f .state))) marks-size);
+            (ap (λ (n : ℕ). blank n (revertMarks (g .state) (pageCount g f) (length (f .state)))) (s .units)
+            ∙ blank-all (length (f .state)) (revertMarks (g .state) (pageCount g f) (length (f .state))) marks-size);
         swap-soon = swap-soon g f (r .marked) (r .some-page);
         revert-soon = revert-soon g f (r .marked) (revertedDfu g f) end;
         revert-sooner = revert-sooner g f (r .marked) (revertedDfu g f) end;

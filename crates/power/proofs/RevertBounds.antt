@@ -47,7 +47,7 @@ module _ (g : Geometry) (f : Flash) (m : Marked g f) (R : List ℕ)
   abbrev Nearer : Flash → ℕ → Type 0
   Nearer now rest = (i : ℕ) × Back now i × (i ≤ suc rest)
 
-  nearer-kept : 2 + S / g .es ≤ dearerCost g → (now : Flash) (was : ℕ) → Nearer now was → (k : ℕ) → k < length (bootOps g now)
+  nearer-kept : 2 + S / g .state .es ≤ dearerCost g → (now : Flash) (was : ℕ) → Nearer now was → (k : ℕ) → k < length (bootOps g now)
       → Kept Nearer (after k (bootOps g now) now) k (dearerCost g) was
   nearer-kept enough now was on k short =
       let o = dearer g now (revert-kept course-back (on .1) k short) in
@@ -61,7 +61,7 @@ module _ (g : Geometry) (f : Flash) (m : Marked g f) (R : List ℕ)
       go l less x (yes e) = absurd (omega (arith, last-most course-back (on .1) e))
       go l less x (no e) = omega (arith, lt-of-not-le e, on .2)
 
-  nearer-left : 2 + S / g .es ≤ dearerCost g → (ks : List ℕ) → AllCut g ks (swapTable g f)
+  nearer-left : 2 + S / g .state .es ≤ dearerCost g → (ks : List ℕ) → AllCut g ks (swapTable g f)
       → KeptAll g Nearer (runs g ks (swapTable g f)) ks (dearerCost g) (stepsBack g f)
   nearer-left enough ks cuts =
       runs-left g Nearer (dearerCost g) (nearer-kept enough) ks (swapTable g f) (stepsBack g f) (admits-swapped g f m R same)
@@ -69,7 +69,7 @@ module _ (g : Geometry) (f : Flash) (m : Marked g f) (R : List ℕ)
 
   -- the progress before and after one more run that is cut
   module _ (ks : List ℕ) (k : ℕ) (cuts : AllCut g ks (swapTable g f)) (c : Cut g k (runs g ks (swapTable g f)))
-      (few : progress (g .ws) (runs g ks (swapTable g f) .state) < 4 * N) where
+      (few : progress (g .state) (runs g ks (swapTable g f) .state) < 4 * N) where
     abbrev now : Flash
     now = runs g ks (swapTable g f)
 
@@ -79,20 +79,20 @@ module _ (g : Geometry) (f : Flash) (m : Marked g f) (R : List ℕ)
     short : k < length (bootOps g now)
     short = cut-short g k now (l .admits) c
 
-    pub back-gains : nextCost g now ≤ k → readState (g .ws) (ran g k now .state) ≡ Swap
-        → progress (g .ws) (now .state) < progress (g .ws) (ran g k now .state)
+    pub back-gains : nextCost g now ≤ k → readState (g .state) (ran g k now .state) ≡ Swap
+        → progress (g .state) (now .state) < progress (g .state) (ran g k now .state)
     back-gains =
-        subst (λ (x : Flash). nextCost g now ≤ k → readState (g .ws) (x .state) ≡ Swap
-        → progress (g .ws) (now .state) < progress (g .ws) (x .state)) (sym (ran-after g k now (l .admits)))
+        subst (λ (x : Flash). nextCost g now ≤ k → readState (g .state) (x .state) ≡ Swap
+        → progress (g .state) (now .state) < progress (g .state) (x .state)) (sym (ran-after g k now (l .admits)))
         (revert-gains course-back (l .inv) k short few)
 
-    pub back-stays : k < nextCost g now → progress (g .ws) (ran g k now .state) ≡ progress (g .ws) (now .state)
+    pub back-stays : k < nextCost g now → progress (g .state) (ran g k now .state) ≡ progress (g .state) (now .state)
     back-stays less =
-        ap (λ (x : Flash). progress (g .ws) (x .state)) (ran-after g k now (l .admits))
+        ap (λ (x : Flash). progress (g .state) (x .state)) (ran-after g k now (l .admits))
         ∙ revert-stays course-back (l .inv) k short few less
 
   pub back-never : 1 ≤ N → (ks : List ℕ) → AllBelow (stepCost g dfu) ks
-      → AllCut g ks (swapTable g f) × (progress (g .ws) (runs g ks (swapTable g f) .state) ≡ 2 * N)
+      → AllCut g ks (swapTable g f) × (progress (g .state) (runs g ks (swapTable g f) .state) ≡ 2 * N)
   back-never more ks few =
       let o = runs-stuck g Here (stepCost g dfu)
       (λ now on k less. revert-stay course-back on (omega (arith, revert-count N 0 (2 * N))) k
@@ -102,12 +102,12 @@ module _ (g : Geometry) (f : Flash) (m : Marked g f) (R : List ℕ)
       Here : Flash → Type 0
       Here now = OnWay g N S (revertEnd g f R) now (2 * N) (revertFrom N 0 (2 * N)) (stepsBack g f)
 
-      at : (now : Flash) → Here now → progress (g .ws) (now .state) ≡ 2 * N
+      at : (now : Flash) → Here now → progress (g .state) (now .state) ≡ 2 * N
       at now on = omega (arith, revert-at course-back on, revert-count N 0 (2 * N))
 
   pub revert-sooner : (ks : List ℕ) → 2 + stateUnits g f ≤ dearerCost g → AllAtLeast (dearerCost g) ks → AllCut g ks (swapTable g f)
       → length ks < 2 * N + 1
   unfolding stateUnits
   revert-sooner ks enough many cuts =
-      let l = nearer-left (subst (λ (n : ℕ). 2 + n / g .es ≤ dearerCost g) (start-sized g f m .state) enough) ks cuts in
+      let l = nearer-left (subst (λ (n : ℕ). 2 + n / g .state .es ≤ dearerCost g) (start-sized g f m .state) enough) ks cuts in
       omega (arith, l .gain many, revert-count N 0 (2 * N))

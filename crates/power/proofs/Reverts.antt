@@ -32,8 +32,8 @@ use Rattle.power.proofs.Start.{markRoom, stateBytes, swappedActive, swa
 -- the ways a revert ends, with the images A and R and n bytes of state that hold st when its erase begins: by the place of the last cut
 abbrev pub Turns : Geometry → List ℕ → ℕ → Flash → List ℕ → List ℕ → ℕ → List ℕ → Type 0
 Turns g ks k f A R n st =
-    (((r : ℕ) → 1 ≤ r → r ≤ n / g .es → Short r g ks f → ⊥) × Ends g ks k f Swap (closed A R (magicArea (g .ws) Revert n)))
-    ⊎ ((r : ℕ) × (1 ≤ r) × (r ≤ n / g .es) × Short r g ks f × Rests g ks k f (closed A R (blank ((n / g .es + 1 - r) * g .es) st)))
+    (((r : ℕ) → 1 ≤ r → r ≤ n / g .state .es → Short r g ks f → ⊥) × Ends g ks k f Swap (closed A R (magicArea (g .state) Revert n)))
+    ⊎ ((r : ℕ) × (1 ≤ r) × (r ≤ n / g .state .es) × Short r g ks f × Rests g ks k f (closed A R (blank ((n / g .state .es + 1 - r) * g .state .es) st)))
 
 -- so many operations were left, and no other number
 short-same : (g : Geometry) (ks : List ℕ) (f : Flash) (r q : ℕ) → Short r g ks f → Short q g ks f → r ≡ q
@@ -44,16 +44,16 @@ short-same g (k ∷ j ∷ ks) f r q x y = short-same g (j ∷ ks) (ran g k f) r 
 
 module _ (g : Geometry) (ks : List ℕ) (k : ℕ) (f : Flash) (A R : List ℕ) (n : ℕ) (st : List ℕ) where
   pub turned : length (f .state) ≡ n → Turns g ks k f A R n st → (InErase g ks f → ⊥)
-      → Ends g ks k f Swap (closed A R (magicArea (g .ws) Revert n))
+      → Ends g ks k f Swap (closed A R (magicArea (g .state) Revert n))
   unfolding InErase stateUnits
   turned e (inl t) o = t .1
   turned e (inr t) o = absurd (o (t .0, t .1, rw e (t .2), t .3))
 
-  pub rested : Turns g ks k f A R n st → (r : ℕ) → 1 ≤ r → r ≤ n / g .es → Short r g ks f
-      → Rests g ks k f (closed A R (blank ((n / g .es + 1 - r) * g .es) st))
+  pub rested : Turns g ks k f A R n st → (r : ℕ) → 1 ≤ r → r ≤ n / g .state .es → Short r g ks f
+      → Rests g ks k f (closed A R (blank ((n / g .state .es + 1 - r) * g .state .es) st))
   rested (inl t) r one most o = absurd (t .0 r one most o)
   rested (inr t) r one most o =
-      subst (λ (q : ℕ). Rests g ks k f (closed A R (blank ((n / g .es + 1 - q) * g .es) st)))
+      subst (λ (q : ℕ). Rests g ks k f (closed A R (blank ((n / g .state .es + 1 - q) * g .state .es) st)))
       (short-same g ks f (t .0) r (t .3) o) (t .4)
 
 -- the steps of the way back, and its end, with the DFU image R
@@ -95,7 +95,7 @@ module _ (g : Geometry) (f : Flash) (m : Marked g f) (R : List ℕ)
         cost = s .cost;
         ws = s .ws;
         unit = s .unit;
-        units = subst (λ (n : ℕ). n / g .es * g .es ≡ n) (s .state) (s .units);
+        units = subst (λ (n : ℕ). n / g .state .es * g .state .es ≡ n) (s .state) (s .units);
         page-some = s .paged .some;
         room = s .room;
         active = s .paged .active;
@@ -124,24 +124,24 @@ module _ (g : Geometry) (f : Flash) (m : Marked g f) (R : List ℕ)
   abbrev gone : ℕ → Flash
   gone = erasedPart g (f .active) R (markRoom g f) (4 * N)
 
-  parts : (j : ℕ) → gone j ≡ closed (f .active) R (blank (j * g .es) (revertMarks (g .ws) N S))
+  parts : (j : ℕ) → gone j ≡ closed (f .active) R (blank (j * g .state .es) (revertMarks (g .state) N S))
   unfolding erasedPart
-  parts j = ap (λ (l : List ℕ). closed (f .active) R (blank (j * g .es) l)) (reverted-marks (g .ws) N (markRoom g f) (omega (arith, s .room)))
+  parts j = ap (λ (l : List ℕ). closed (f .active) R (blank (j * g .state .es) l)) (reverted-marks (g .state) N (markRoom g f) (omega (arith, s .room)))
 
   -- a run that is cut did not start with units erased
-  not-erased : (k : ℕ) (x : Flash) → Admits g x → Cut g k x → (j : ℕ) → 1 ≤ j → j ≤ S / g .es → x ≡ gone j → ⊥
+  not-erased : (k : ℕ) (x : Flash) → Admits g x → Cut g k x → (j : ℕ) → 1 ≤ j → j ≤ S / g .state .es → x ≡ gone j → ⊥
   not-erased k x a c j one most e = omega (arith, cut-short g k x a c, ap length (ap (bootOps g) e ∙ gone-idle course j one most))
 
   -- they are just after a last cut with as many operations left
   place-one : (k : ℕ) (now : Flash) (m : ℕ) → Admits g now → Back now m → Cut g k now
-      → LastCut g (S / g .es) gone (λ (r : ℕ). k + r ≡ length (bootOps g now)) (ran g k now)
+      → LastCut g (S / g .state .es) gone (λ (r : ℕ). k + r ≡ length (bootOps g now)) (ran g k now)
   place-one k now m a on c =
-      subst (λ (x : Flash). LastCut g (S / g .es) gone (λ (r : ℕ). k + r ≡ length (bootOps g now)) x)
+      subst (λ (x : Flash). LastCut g (S / g .state .es) gone (λ (r : ℕ). k + r ≡ length (bootOps g now)) x)
       (sym (ran-after g k now a))
       (revert-place course on k (cut-short g k now a c))
 
-  place : (ks : List ℕ) (now : Flash) (m : ℕ) → Admits g now → Back now m → readState (g .ws) (now .state) ≡ Swap
-      → AllCut g ks now → LastCut g (S / g .es) gone (λ (r : ℕ). Short r g ks now) (runs g ks now)
+  place : (ks : List ℕ) (now : Flash) (m : ℕ) → Admits g now → Back now m → readState (g .state) (now .state) ≡ Swap
+      → AllCut g ks now → LastCut g (S / g .state .es) gone (λ (r : ℕ). Short r g ks now) (runs g ks now)
   unfolding runs AllCut Short prepareBoot
   place [] now m a on swap cuts = inr (λ r one most e. e, swap)
   place (k ∷ []) now m a on swap cuts = place-one k now m a on (cuts .0)
@@ -151,21 +151,21 @@ module _ (g : Geometry) (f : Flash) (m : Marked g f) (R : List ℕ)
       (subst (λ (x : Flash). Back x (o .rest)) (sym (ran-after g k now a)) (o .inv))
       (next (place-one k now m a on (cuts .0))) (cuts .1)
     where
-      next : LastCut g (S / g .es) gone (λ (r : ℕ). k + r ≡ length (bootOps g now)) (ran g k now)
-          → readState (g .ws) (ran g k now .state) ≡ Swap
+      next : LastCut g (S / g .state .es) gone (λ (r : ℕ). k + r ≡ length (bootOps g now)) (ran g k now)
+          → readState (g .state) (ran g k now .state) ≡ Swap
       next (inl e) =
           absurd
-          (not-erased j (ran g k now) (admits-ran g k now a) (cuts .1 .0) (S / g .es + 1 - e .0) (omega (arith, e .2))
+          (not-erased j (ran g k now) (admits-ran g k now a) (cuts .1 .0) (S / g .state .es + 1 - e .0) (omega (arith, e .2))
           (omega (arith, e .1)) (e .4))
       next (inr e) = e .1
 
   pub turns-back : (ks : List ℕ) (k : ℕ) → FirstWhole g ks k (swapTable g f)
-      → Turns g ks k (swapTable g f) (f .active) R (length (f .state)) (revertMarks (g .ws) N (length (f .state)))
+      → Turns g ks k (swapTable g f) (f .active) R (length (f .state)) (revertMarks (g .state) N (length (f .state)))
   turns-back ks k w =
-      subst (λ (n : ℕ). Turns g ks k (swapTable g f) (f .active) R n (revertMarks (g .ws) N n)) (sym (s .state))
+      subst (λ (n : ℕ). Turns g ks k (swapTable g f) (f .active) R n (revertMarks (g .state) N n)) (sym (s .state))
       (go (place ks (swapTable g f) (suc (stepsBack g f)) admits-swapped (copying from-table) swap (w .cuts)))
     where
-      swap : readState (g .ws) (swapTable g f .state) ≡ Swap
+      swap : readState (g .state) (swapTable g f .state) ≡ Swap
       swap = on-stage from-table .reads .swap
 
       l : KeptAll g Back (runs g ks (swapTable g f)) ks (dearerCost g) (suc (stepsBack g f))
@@ -174,12 +174,12 @@ module _ (g : Geometry) (f : Flash) (m : Marked g f) (R : List ℕ)
       long : length (bootOps g (runs g ks (swapTable g f))) ≤ k
       long = whole-long g k (runs g ks (swapTable g f)) (l .admits) (w .whole)
 
-      go : LastCut g (S / g .es) gone (λ (r : ℕ). Short r g ks (swapTable g f)) (runs g ks (swapTable g f))
-          → Turns g ks k (swapTable g f) (f .active) R S (revertMarks (g .ws) N S)
+      go : LastCut g (S / g .state .es) gone (λ (r : ℕ). Short r g ks (swapTable g f)) (runs g ks (swapTable g f))
+          → Turns g ks k (swapTable g f) (f .active) R S (revertMarks (g .state) N S)
       go (inl p) =
-          let j : ℕ = S / g .es + 1 - p .0 in
+          let j : ℕ = S / g .state .es + 1 - p .0 in
           let one : 1 ≤ j = omega (arith, p .2) in
-          let most : j ≤ S / g .es = omega (arith, p .1) in
+          let most : j ≤ S / g .state .es = omega (arith, p .1) in
           inr (
             p .0,
             p .1,

@@ -58,14 +58,14 @@ module _ (g : Geometry) (k : ℕ) (f : Flash) (a : Admits g f) where
       go (no h) = absurd (n (short-cut (lt-of-not-le h)))
 
   pub answer-done : length (bootOps g f) ≤ k
-      → answer g k f ≡ record { number = 0; state = some (readState (g .ws) (f .state)); count = length (bootOps g f) }
+      → answer g k f ≡ record { number = 0; state = some (readState (g .state) (f .state)); count = length (bootOps g f) }
   unfolding answer prepareBoot
   answer-done h = report-done (prepareBoot g f) k a h
 
 -- a run that is not cut, in the words of the statement
 module _ {g : Geometry} {ks : List ℕ} {k : ℕ} {f : Flash} (a : Admits g (runs g ks f))
     (long : length (bootOps g (runs g ks f)) ≤ k) where
-  pub ends-at : {s : State} {h : Flash} → readState (g .ws) (runs g ks f .state) ≡ s
+  pub ends-at : {s : State} {h : Flash} → readState (g .state) (runs g ks f .state) ≡ s
       → after k (bootOps g (runs g ks f)) (runs g ks f) ≡ h
       → Ends g ks k f s h
   ends-at e d =
@@ -76,7 +76,7 @@ module _ {g : Geometry} {ks : List ℕ} {k : ℕ} {f : Flash} (a : Admits g (run
         flash = ran-after g k (runs g ks f) a ∙ d;
       }
 
-  pub rests-at : {h : Flash} → runs g ks f ≡ h → bootOps g h ≡ [] → readState (g .ws) (h .state) ≡ Boot → Rests g ks k f h
+  pub rests-at : {h : Flash} → runs g ks f ≡ h → bootOps g h ≡ [] → readState (g .state) (h .state) ≡ Boot → Rests g ks k f h
   rests-at e none boot =
       let n : bootOps g (runs g ks f) ≡ [] = ap (bootOps g) e ∙ none in
       record {
@@ -84,7 +84,7 @@ module _ {g : Geometry} {ks : List ℕ} {k : ℕ} {f : Flash} (a : Admits g (run
         answers =
             answer-done g k (runs g ks f) a long
             ∙ ap₂ (λ (s : State) (c : ℕ). record { number = 0; state = some s; count = c })
-            (ap (λ (x : Flash). readState (g .ws) (x .state)) e ∙ boot) (ap length n);
+            (ap (λ (x : Flash). readState (g .state) (x .state)) e ∙ boot) (ap length n);
         flash =
             ran-after g k (runs g ks f) a ∙ ap (λ (os : List Op). after k os (runs g ks f)) n ∙ after-none k (runs g ks f) ∙ e;
       }

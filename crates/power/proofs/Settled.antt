@@ -14,6 +14,7 @@ use lib.ListN.{length, replicate}
 use Rattle.state.specs.declared.State.{State}
 use Rattle.state.specs.declared.State.the-variants.{Boot, Swap, Revert, DfuDetach}
 use Rattle.state.specs.Magic.{marked}
+use Rattle.geometry.specs.declared.StateSizes.{StateSizes}
 use Rattle.geometry.specs.declared.Geometry.{Geometry}
 use Rattle.geometry.specs.Geometry.{page, pages, words}
 use Rattle.geometry.specs.Refusals.{bootWords}
@@ -45,7 +46,7 @@ use Rattle.power.proofs.Runs.{Admits, ran-after, admits-ran, whole-long
 
 -- a whole step leaves the state area with its mark
 step-state : (g : Geometry) → Whole g → (c : Copy) (f : Flash) → Image (c .to)
-    → applyAll (copyOps g c f) f .state ≡ withMark (g .ws) (c .mark) (f .state)
+    → applyAll (copyOps g c f) f .state ≡ withMark (g .state) (c .mark) (f .state)
 unfolding copyOps applyAll apply markOp change withMark
 step-state g whole c f i =
     ap (λ (x : Flash). x .state)
@@ -54,13 +55,13 @@ step-state g whole c f i =
     (ap (applyAll fills) (sym (placed-same (c .to) f))
     ∙ fill-placed (unitOf g (c .to)) (page g) (g .b) (c .target * page g) (c .source * page g) (c .to) (sourceOf (c .to) f)
     (areaOf (c .to) f) f (whole .units (c .to) i)))
-    ∙ ap (writtenAt ((2 + c .mark) * g .ws) (replicate (g .ws) marked)) (state-placed (c .to) page-left f i)
+    ∙ ap (writtenAt ((2 + c .mark) * g .state .ws) (replicate (g .state .ws) marked)) (state-placed (c .to) page-left f i)
   where
     fills : List Op
     fills = fillOps (unitOf g (c .to)) (page g) (g .b) (c .target * page g) (c .source * page g) (sourceOf (c .to) f) (c .to)
 
     markOps : List Op
-    markOps = markOp (g .ws) (c .mark) ∷ []
+    markOps = markOp (g .state) (c .mark) ∷ []
 
     page-left : List ℕ
     page-left =
@@ -68,45 +69,45 @@ step-state g whole c f i =
         (erasedAt (c .target * page g) (page g) (areaOf (c .to) f))
 
 -- the state area st′ reads as st does, and its progress is i or more
-record Past (w : ℕ) (st st′ : List ℕ) (i : ℕ) : Type 0 where
-  same : readState w st′ ≡ readState w st
+record Past (z : StateSizes) (st st′ : List ℕ) (i : ℕ) : Type 0 where
+  same : readState z st′ ≡ readState z st
   size : length st′ ≡ length st
-  past : i ≤ progress w st′
+  past : i ≤ progress z st′
 
-once-past : (g : Geometry) → Whole g → (c : Copy) (f : Flash) → Image (c .to) → c .mark ≤ progress (g .ws) (f .state)
-    → c .mark < mostMarks (g .ws) (f .state) → Past (g .ws) (f .state) (applyAll (onceOps g c f) f .state) (suc (c .mark))
+once-past : (g : Geometry) → Whole g → (c : Copy) (f : Flash) → Image (c .to) → c .mark ≤ progress (g .state) (f .state)
+    → c .mark < mostMarks (g .state) (f .state) → Past (g .state) (f .state) (applyAll (onceOps g c f) f .state) (suc (c .mark))
 unfolding applyAll
 once-past g whole c f i h m = go (eq-or-lt-of-le h)
   where
-    go : (c .mark ≡ progress (g .ws) (f .state)) ⊎ (c .mark < progress (g .ws) (f .state))
-        → Past (g .ws) (f .state) (applyAll (onceOps g c f) f .state) (suc (c .mark))
+    go : (c .mark ≡ progress (g .state) (f .state)) ⊎ (c .mark < progress (g .state) (f .state))
+        → Past (g .state) (f .state) (applyAll (onceOps g c f) f .state) (suc (c .mark))
     go (inl e) =
-        let d : applyAll (onceOps g c f) f .state ≡ withMark (g .ws) (c .mark) (f .state) =
+        let d : applyAll (onceOps g c f) f .state ≡ withMark (g .state) (c .mark) (f .state) =
         ap (λ (os : List Op). applyAll os f .state) (once-do g c f (omega (arith, e))) ∙ step-state g whole c f i in
         record {
-          same = ap (readState (g .ws)) d ∙ same-state (g .ws) (c .mark) (f .state);
+          same = ap (readState (g .state)) d ∙ same-state (g .state) (c .mark) (f .state);
           size = all-lengths (onceOps g c f) f .state;
-          past = rw d (mark-passes (g .ws) (c .mark) (f .state) m (sym e));
+          past = rw d (mark-passes (g .state) (c .mark) (f .state) m (sym e));
         }
     go (inr l) =
         let d : applyAll (onceOps g c f) f .state ≡ f .state = ap (λ (os : List Op). applyAll os f .state) (once-skip g c f l) in
-        record { same = ap (readState (g .ws)) d; size = ap length d; past = rw d l }
+        record { same = ap (readState (g .state)) d; size = ap length d; past = rw d l }
 
-row-passed : (g : Geometry) → Whole g → (cs : List Copy) (i : ℕ) (f : Flash) → StepRow i cs → i ≤ progress (g .ws) (f .state)
-    → i + length cs ≤ mostMarks (g .ws) (f .state)
-    → Past (g .ws) (f .state) (applyAll (copiesOps g cs f) f .state) (i + length cs)
+row-passed : (g : Geometry) → Whole g → (cs : List Copy) (i : ℕ) (f : Flash) → StepRow i cs → i ≤ progress (g .state) (f .state)
+    → i + length cs ≤ mostMarks (g .state) (f .state)
+    → Past (g .state) (f .state) (applyAll (copiesOps g cs f) f .state) (i + length cs)
 unfolding copiesOps applyAll mostMarks
 row-passed g whole [] i f r h m = record { same = refl; size = refl; past = omega arith }
 row-passed g whole (c ∷ cs) i f r h m =
     let e : c .mark ≡ i = r .1 in
     let o = once-past g whole c f (r .0) (omega arith) (omega arith) in
     let next : Flash = applyAll (onceOps g c f) f in
-    let z : words (g .ws) (length (next .state)) ≡ words (g .ws) (length (f .state)) = ap (words (g .ws)) (o .size) in
+    let z : words (g .state .ws) (length (next .state)) ≡ words (g .state .ws) (length (f .state)) = ap (words (g .state .ws)) (o .size) in
     let q = row-passed g whole cs (suc i) next (r .2) (omega (arith, o .past)) (omega arith) in
     let d : applyAll (copiesOps g (c ∷ cs) f) f .state ≡ applyAll (copiesOps g cs next) next .state =
     ap (λ (x : Flash). x .state) (apply-append (onceOps g c f) (copiesOps g cs next) f) in
     record {
-      same = ap (readState (g .ws)) d ∙ q .same ∙ o .same;
+      same = ap (readState (g .state)) d ∙ q .same ∙ o .same;
       size = ap length d ∙ q .size ∙ o .size;
       past = rw d (omega (arith, q .past));
     }
@@ -120,56 +121,56 @@ module _ (g : Geometry) (f : Flash) (a : Admits g f) where
   ad : Admitted g (length (f .active)) (length (f .dfu)) (length (f .state))
   ad = admitted g (length (f .active)) (length (f .dfu)) (length (f .state)) a
 
-  enough : bootWords N ≤ words (g .ws) (length (f .state))
+  enough : bootWords N ≤ words (g .state .ws) (length (f .state))
   unfolding pageCount
   enough = ad .state-words
 
-  some-word : 0 < g .ws
+  some-word : 0 < g .state .ws
   some-word = ad .numbers .ws .some
 
-  some-area : g .ws ≤ length (f .state)
+  some-area : g .state .ws ≤ length (f .state)
   unfolding bootWords words
   some-area =
       let n : ℕ = length (f .state) in
       omega (
         arith,
         enough,
-        mul-le-mul-right {m = 3} {n = n / g .ws} (g .ws) (omega (arith, enough)),
+        mul-le-mul-right {m = 3} {n = n / g .state .ws} (g .state .ws) (omega (arith, enough)),
         div-mul-le-self n
-            (g .ws),
+            (g .state .ws),
       )
 
-  whole-units : length (f .state) / g .es * g .es ≡ length (f .state)
-  whole-units = even-times (length (f .state)) (g .es) (ad .state-units)
+  whole-units : length (f .state) / g .state .es * g .state .es ≡ length (f .state)
+  whole-units = even-times (length (f .state)) (g .state .es) (ad .state-units)
 
   -- a confirmation that is through: the state area reads Boot
-  confirm-through : readState (g .ws) (f .state) ≡ Swap → confirming (g .ws) N (f .state) ≡ true
-      → readState (g .ws) (applyAll (bootOps g f) f .state) ≡ Boot
+  confirm-through : readState (g .state) (f .state) ≡ Swap → confirming (g .state) N (f .state) ≡ true
+      → readState (g .state) (applyAll (bootOps g f) f .state) ≡ Boot
   unfolding closed
   confirm-through swap c =
       let n : ℕ = length (f .state) in
-      ap (λ (os : List Op). readState (g .ws) (applyAll os f .state)) (wants-renewal g f swap c)
-      ∙ ap (λ (y : Flash). readState (g .ws) (y .state))
-      (renewed (f .active) (f .dfu) Boot (g .es) (g .ws) n (f .state) whole-units refl some-area)
-      ∙ area-reads Boot (g .ws) n (boot-reads (g .ws) some-word)
+      ap (λ (os : List Op). readState (g .state) (applyAll os f .state)) (wants-renewal g f swap c)
+      ∙ ap (λ (y : Flash). readState (g .state) (y .state))
+      (renewed (f .active) (f .dfu) Boot (g .state) n (f .state) whole-units refl some-area)
+      ∙ area-reads Boot (g .state) n (boot-reads (g .state .ws) some-word)
 
-  module _ (swap : readState (g .ws) (f .state) ≡ Swap) (settled : confirming (g .ws) N (f .state) ≡ false) where
-    reads : Reads g N (length (f .state)) (progress (g .ws) (f .state)) f
+  module _ (swap : readState (g .state) (f .state) ≡ Swap) (settled : confirming (g .state) N (f .state) ≡ false) where
+    reads : Reads g N (length (f .state)) (progress (g .state) (f .state)) f
     reads = record { swap = swap; paged = refl; sized = refl; done = refl; settled = settled }
 
     -- a swap that is through: the next boot will revert
-    swap-through : progress (g .ws) (f .state) < 2 * N → Past (g .ws) (f .state) (applyAll (bootOps g f) f .state) (2 * N)
+    swap-through : progress (g .state) (f .state) < 2 * N → Past (g .state) (f .state) (applyAll (bootOps g f) f .state) (2 * N)
     unfolding bootWords mostMarks
     swap-through h =
         let n : length (swapFrom N 0) ≡ 2 * N = swap-count N 0 in
         let p = row-passed g (whole-page ad) (swapFrom N 0) 0 f (swap-row N 0) zero-le (omega (arith, enough)) in
         let d : bootOps g f ≡ copiesOps g (swapFrom N 0) f =
         wants-swap reads h in
-        subst (λ (os : List Op). Past (g .ws) (f .state) (applyAll os f .state) (2 * N)) (sym d)
+        subst (λ (os : List Op). Past (g .state) (f .state) (applyAll os f .state) (2 * N)) (sym d)
         (record { same = p .same; size = p .size; past = omega (arith, p .past) })
 
     -- a revert that is through: the state area reads Revert
-    revert-through : 2 * N ≤ progress (g .ws) (f .state) → readState (g .ws) (applyAll (bootOps g f) f .state) ≡ Revert
+    revert-through : 2 * N ≤ progress (g .state) (f .state) → readState (g .state) (applyAll (bootOps g f) f .state) ≡ Revert
     unfolding closed
     revert-through h =
         let copies : List Op = copiesOps g (revertFrom N 0 (2 * N)) f in
@@ -178,11 +179,11 @@ module _ (g : Geometry) (f : Flash) (a : Admits g f) where
         let d : bootOps g f ≡ copies ++ closeOps g n =
         wants-revert reads h
         ∙ ap (λ (os : List Op). copies ++ os) (finish-close g f n refl) in
-        ap (λ (os : List Op). readState (g .ws) (applyAll os f .state)) d
-        ∙ ap (λ (y : Flash). readState (g .ws) (y .state))
+        ap (λ (os : List Op). readState (g .state) (applyAll os f .state)) d
+        ∙ ap (λ (y : Flash). readState (g .state) (y .state))
         (apply-append copies (closeOps g n) f ∙ finished (x .active) (x .dfu) g n (x .state)
         whole-units (all-lengths copies f .state) some-area)
-        ∙ area-reads Revert (g .ws) n (revert-reads (g .ws) some-word)
+        ∙ area-reads Revert (g .state) n (revert-reads (g .state .ws) some-word)
 
   -- ---- runs that are not cut
 
@@ -197,7 +198,7 @@ module _ (g : Geometry) (f : Flash) (a : Admits g f) where
       }
     where
       idle : (k : ℕ) → answer g k f
-          ≡ record { number = 0; state = some (readState (g .ws) (f .state)); count = length (bootOps g f) }
+          ≡ record { number = 0; state = some (readState (g .state) (f .state)); count = length (bootOps g f) }
       idle k = answer-done g k f a (rw e zero-le)
 
   -- a run that is not cut does all
@@ -205,11 +206,11 @@ module _ (g : Geometry) (f : Flash) (a : Admits g f) where
   ran-all k w = ran-after g k f a ∙ after-all k (bootOps g f) f (whole-long g k f a w)
 
   -- every state but Swap wants nothing
-  swap-or-idle : (readState (g .ws) (f .state) ≡ Swap) ⊎ (bootOps g f ≡ [])
+  swap-or-idle : (readState (g .state) (f .state) ≡ Swap) ⊎ (bootOps g f ≡ [])
   unfolding bootOps bootOpsIn
-  swap-or-idle = go (readState (g .ws) (f .state)) refl
+  swap-or-idle = go (readState (g .state) (f .state)) refl
     where
-      go : (s : State) → readState (g .ws) (f .state) ≡ s → (readState (g .ws) (f .state) ≡ Swap) ⊎ (bootOpsIn s g f ≡ [])
+      go : (s : State) → readState (g .state) (f .state) ≡ s → (readState (g .state) (f .state) ≡ Swap) ⊎ (bootOpsIn s g f ≡ [])
       go Boot e = inr refl
       go Swap e = inl e
       go Revert e = inr refl
@@ -220,27 +221,27 @@ still : (g : Geometry) (f : Flash) (k : ℕ) → Quiet g f → Quiet g (ran g k 
 still g f k q = subst (Quiet g) (sym (q .flash k)) q
 
 -- where a confirmation was cut, or a revert is due, one run is enough
-module _ (g : Geometry) (f : Flash) (a : Admits g f) (swap : readState (g .ws) (f .state) ≡ Swap) (k : ℕ) (w : Cut g k f → ⊥) where
-  through-reads : readState (g .ws) (ran g k f .state) ≡ readState (g .ws) (applyAll (bootOps g f) f .state)
-  through-reads = ap (λ (x : Flash). readState (g .ws) (x .state)) (ran-all g f a k w)
+module _ (g : Geometry) (f : Flash) (a : Admits g f) (swap : readState (g .state) (f .state) ≡ Swap) (k : ℕ) (w : Cut g k f → ⊥) where
+  through-reads : readState (g .state) (ran g k f .state) ≡ readState (g .state) (applyAll (bootOps g f) f .state)
+  through-reads = ap (λ (x : Flash). readState (g .state) (x .state)) (ran-all g f a k w)
 
-  settles-confirmed : confirming (g .ws) (pageCount g f) (f .state) ≡ true → Quiet g (ran g k f)
+  settles-confirmed : confirming (g .state) (pageCount g f) (f .state) ≡ true → Quiet g (ran g k f)
   settles-confirmed c =
       quiet g (ran g k f) (admits-ran g k f a) (wants-none g (ran g k f) (through-reads ∙ confirm-through g f a swap c))
 
-  settles-once : 2 * pageCount g f ≤ progress (g .ws) (f .state) → Quiet g (ran g k f)
-  settles-once h = go (confirming (g .ws) (pageCount g f) (f .state)) refl
+  settles-once : 2 * pageCount g f ≤ progress (g .state) (f .state) → Quiet g (ran g k f)
+  settles-once h = go (confirming (g .state) (pageCount g f) (f .state)) refl
     where
-      go : (b : Bool) → confirming (g .ws) (pageCount g f) (f .state) ≡ b → Quiet g (ran g k f)
+      go : (b : Bool) → confirming (g .state) (pageCount g f) (f .state) ≡ b → Quiet g (ran g k f)
       go true c = settles-confirmed c
       go false c =
           quiet g (ran g k f) (admits-ran g k f a)
           (wants-none-reverted g (ran g k f) (through-reads ∙ revert-through g f a swap c h))
 
 -- and where a swap is due, two are
-settles-twice : (g : Geometry) (f : Flash) → Admits g f → readState (g .ws) (f .state) ≡ Swap
-    → confirming (g .ws) (pageCount g f) (f .state) ≡ false
-    → progress (g .ws) (f .state) < 2 * pageCount g f → (j k : ℕ) → (Cut g j f → ⊥) → (Cut g k (ran g j f) → ⊥)
+settles-twice : (g : Geometry) (f : Flash) → Admits g f → readState (g .state) (f .state) ≡ Swap
+    → confirming (g .state) (pageCount g f) (f .state) ≡ false
+    → progress (g .state) (f .state) < 2 * pageCount g f → (j k : ℕ) → (Cut g j f → ⊥) → (Cut g k (ran g j f) → ⊥)
     → Quiet g (ran g k (ran g j f))
 unfolding pageCount
 settles-twice g f a swap c h j k w v =
@@ -249,21 +250,21 @@ settles-twice g f a swap c h j k w v =
     let p = swap-through g f a swap c h in
     let n : pageCount g x ≡ pageCount g f =
     ap (λ (y : Flash). pageCount g y) e ∙ ap (pages g) (all-lengths (bootOps g f) f .active) in
-    let q : progress (g .ws) (x .state) ≡ progress (g .ws) (applyAll (bootOps g f) f .state) =
-    ap (λ (y : Flash). progress (g .ws) (y .state)) e in
-    settles-once g x (admits-ran g j f a) (ap (λ (y : Flash). readState (g .ws) (y .state)) e ∙ p .same ∙ swap) k v
+    let q : progress (g .state) (x .state) ≡ progress (g .state) (applyAll (bootOps g f) f .state) =
+    ap (λ (y : Flash). progress (g .state) (y .state)) e in
+    settles-once g x (admits-ran g j f a) (ap (λ (y : Flash). readState (g .state) (y .state)) e ∙ p .same ∙ swap) k v
     (omega (arith, n, q, p .past))
 
 pub settles : (g : Geometry) (f : Flash) → Settles g f
 unfolding runs prepareBoot
 settles g f a j k w v = go (swap-or-idle g f a)
   where
-    due : readState (g .ws) (f .state) ≡ Swap → (b : Bool) → confirming (g .ws) (pageCount g f) (f .state) ≡ b
-        → Dec (2 * pageCount g f ≤ progress (g .ws) (f .state)) → Quiet g (ran g k (ran g j f))
+    due : readState (g .state) (f .state) ≡ Swap → (b : Bool) → confirming (g .state) (pageCount g f) (f .state) ≡ b
+        → Dec (2 * pageCount g f ≤ progress (g .state) (f .state)) → Quiet g (ran g k (ran g j f))
     due e b c (yes h) = still g (ran g j f) k (settles-once g f a e j w h)
     due e true c (no h) = still g (ran g j f) k (settles-confirmed g f a e j w c)
     due e false c (no h) = settles-twice g f a e c (lt-of-not-le h) j k w v
 
-    go : (readState (g .ws) (f .state) ≡ Swap) ⊎ (bootOps g f ≡ []) → Quiet g (ran g k (ran g j f))
-    go (inl e) = due e (confirming (g .ws) (pageCount g f) (f .state)) refl (decLe (2 * pageCount g f) (progress (g .ws) (f .state)))
+    go : (readState (g .state) (f .state) ≡ Swap) ⊎ (bootOps g f ≡ []) → Quiet g (ran g k (ran g j f))
+    go (inl e) = due e (confirming (g .state) (pageCount g f) (f .state)) refl (decLe (2 * pageCount g f) (progress (g .state) (f .state)))
     go (inr e) = still g (ran g j f) k (still g f j (quiet g f a e))

@@ -22,10 +22,10 @@ use Rattle.power.specs.Power.{Marked}
 
 -- the marks that the state area has room for, its bytes, and active after the swap
 abbrev pub markRoom : Geometry → Flash → ℕ
-markRoom g f = words (g .ws) (length (f .state)) - 2
+markRoom g f = words (g .state .ws) (length (f .state)) - 2
 
 abbrev pub stateBytes : Geometry → Flash → ℕ
-stateBytes g f = (2 + markRoom g f) * g .ws
+stateBytes g f = (2 + markRoom g f) * g .state .ws
 
 abbrev pub swappedActive : Flash → List ℕ
 swappedActive f = take (length (f .active)) (f .dfu)
@@ -53,7 +53,7 @@ module _ (g : Geometry) (f : Flash) (m : Marked g f) where
   start-table =
       flash-path (mix-all-active (start-sized .paged) (swappedActive f) (start-images .active-same))
       (mix-all-dfu (start-sized .paged))
-      (sym (fresh-marks (g .ws) (markRoom g f)) ∙ ap (magicArea (g .ws) Swap) (sym (start-sized .state)) ∙ sym (m .fresh))
+      (sym (fresh-marks (g .state) (markRoom g f)) ∙ ap (magicArea (g .state) Swap) (sym (start-sized .state)) ∙ sym (m .fresh))
 
   pub start-reads : Reads g N (stateBytes g f) 0 f
   start-reads =
@@ -65,8 +65,8 @@ module _ (g : Geometry) (f : Flash) (m : Marked g f) where
   unfolding stageTable swapTable newDfu
   end-table d e =
       flash-path (mix-none (page g) (f .active) (swappedActive f)) e
-      (swapped-marks (g .ws) N (markRoom g f) (omega (arith, start-sized .room))
-      ∙ ap (swapMarks (g .ws) N) (sym (start-sized .state)))
+      (swapped-marks (g .state) N (markRoom g f) (omega (arith, start-sized .room))
+      ∙ ap (swapMarks (g .state) N) (sym (start-sized .state)))
 
   pub way-there : Way g N (stateBytes g f) 0 f (swapFrom N 0) (swapTable g f)
   way-there =

@@ -33,34 +33,34 @@ module _ (g : Geometry) (f : Flash) (m : Marked g f) (more : 1 ≤ pageCount g f
     l : KeptAll g (There g f m) (runs g ks f) ks (dearerCost g) (length (swapFrom N 0))
     l = swap-left g f m more ks cuts
 
-    before : progress (g .ws) (runs g ks f .state) + l .rest ≡ 2 * N
+    before : progress (g .state) (runs g ks f .state) + l .rest ≡ 2 * N
     before = swap-at (l .inv)
 
     behind : (rest : ℕ) → There g f m (after k (bootOps g (runs g ks f)) (runs g ks f)) rest
-        → progress (g .ws) (ran g k (runs g ks f) .state) + rest ≡ 2 * N
+        → progress (g .state) (ran g k (runs g ks f) .state) + rest ≡ 2 * N
     behind rest on =
-        ap (λ (x : Flash). progress (g .ws) (x .state) + rest) (ran-after g k (runs g ks f) (l .admits))
+        ap (λ (x : Flash). progress (g .state) (x .state) + rest) (ran-after g k (runs g ks f) (l .admits))
         ∙ swap-at on
 
     pub swap-gains : nextCost g (runs g ks f) ≤ k
-        → progress (g .ws) (runs g ks f .state) < progress (g .ws) (ran g k (runs g ks f) .state)
+        → progress (g .state) (runs g ks f .state) < progress (g .state) (ran g k (runs g ks f) .state)
     swap-gains h =
         let o = swap-kept (l .inv) (start-sized g f m .whole) k
         (cut-short g k (runs g ks f) (l .admits) c) in
         omega (arith, before, behind (o .rest) (o .inv), o .gain h)
 
     pub swap-stays : k < nextCost g (runs g ks f)
-        → progress (g .ws) (ran g k (runs g ks f) .state) ≡ progress (g .ws) (runs g ks f .state)
+        → progress (g .state) (ran g k (runs g ks f) .state) ≡ progress (g .state) (runs g ks f .state)
     swap-stays h =
         let o = swap-stay (l .inv) (start-sized g f m .whole) k h in
         omega (arith, before, behind (l .rest) (o .1))
 
-  pub swap-never : (ks : List ℕ) → AllBelow (stepCost g dfu) ks → AllCut g ks f × (progress (g .ws) (runs g ks f .state) ≡ 0)
+  pub swap-never : (ks : List ℕ) → AllBelow (stepCost g dfu) ks → AllCut g ks f × (progress (g .state) (runs g ks f .state) ≡ 0)
   swap-never ks few =
       let o = runs-stuck g (λ (x : Flash). There g f m x (length (swapFrom N 0))) (stepCost g dfu)
       (λ now on k less. swap-stay on (start-sized g f m .whole) k
       (rw (even-cost g now 0 (at now on)) less)) ks f (m .admitted) (from-start g f m more) few in
       (o .0, at (runs g ks f) (o .1))
     where
-      at : (now : Flash) → There g f m now (length (swapFrom N 0)) → progress (g .ws) (now .state) ≡ 0
+      at : (now : Flash) → There g f m now (length (swapFrom N 0)) → progress (g .state) (now .state) ≡ 0
       at now on = omega (arith, swap-at on, swap-count N 0)

@@ -5,9 +5,10 @@ use mathlib.Core.List.{List}
 use Prim.Native.Nat.{ℕ}
 use lib.ListN.{length}
 use Rattle.state.specs.declared.State.{State}
+use Rattle.geometry.specs.declared.StateSizes.{StateSizes}
 use Rattle.geometry.specs.declared.Geometry.{Geometry}
 use Rattle.geometry.specs.declared.Sizes.{Sizes}
-use Rattle.mem_flash.specs.Flash.{Flash}
+use Rattle.mem_flash.specs.Flash.{Flash, Supply}
 use Rattle.rules.specs.declared.Sector.{Sector}
 use Rattle.rules.specs.Calls.{Call, report, left}
 use Rattle.rules.specs.Boot.{prepareBoot, getState}
@@ -22,14 +23,14 @@ pub record Alike (f h : Flash) : Type 0 where
 
 -- a call on each, under every budget: the same report, and flashes that are alike again
 pub record SameAnswers (c d : Call) (f h : Flash) : Type 0 where
-  pub answers : (k : ℕ) → report c k ≡ report d k
-  pub leaves : (k : ℕ) → Alike (left c k f) (left d k h)
+  pub answers : (k : Supply) → report c k ≡ report d k
+  pub leaves : (k : Supply) → Alike (left c k f) (left d k h)
 
 -- what the images hold does not matter to any call
 pub record ImagesAside (f h : Flash) : Type 0 where
   pub boot : (g : Geometry) → SameAnswers (prepareBoot g f) (prepareBoot g h) f h
-  pub get-state : (es ws : ℕ) → SameAnswers (getState es ws (f .state)) (getState es ws (h .state)) f h
-  pub marks : (s : State) (es ws : ℕ) → SameAnswers (mark s es ws (f .state)) (mark s es ws (h .state)) f h
+  pub get-state : (z : StateSizes) → SameAnswers (getState z (f .state)) (getState z (h .state)) f h
+  pub marks : (s : State) (z : StateSizes) → SameAnswers (mark s z (f .state)) (mark s z (h .state)) f h
   pub updater-get-state : (z : Sizes) → SameAnswers (updaterGetState z f) (updaterGetState z h) f h
   pub updater-mark-updated : (z : Sizes) → SameAnswers (updaterMarkUpdated z f) (updaterMarkUpdated z h) f h
   pub updater-mark-dfu : (z : Sizes) → SameAnswers (updaterMarkDfu z f) (updaterMarkDfu z h) f h
@@ -39,5 +40,5 @@ pub record ImagesAside (f h : Flash) : Type 0 where
       → SameAnswers (writeFirmware z m offset bytes f) (writeFirmware z m offset bytes h) f h
   pub prepare-update : (z : Sizes) → SameAnswers (prepareUpdate z f) (prepareUpdate z h) f h
   -- and the updater's memory is the same
-  pub remembers : (k : ℕ) (z : Sizes) (m : Sector) (offset : ℕ) (bytes : List ℕ)
+  pub remembers : (k : Supply) (z : Sizes) (m : Sector) (offset : ℕ) (bytes : List ℕ)
       → memory k z m offset bytes f ≡ memory k z m offset bytes h

@@ -35,7 +35,7 @@ pub record OnTheBench : Type 0 where
 
 -- two erase units to a page of active, four to the state area
 unfoldable pub fine : Geometry
-fine = record { ea = 2; wa = 2; ed = 4; wd = 2; es = 4; ws = 1; b = 2 }
+fine = record { ea = 2; wa = 2; ed = 4; wd = 2; state = record { es = 4; ws = 1 }; b = 2 }
 
 unfoldable pub fineCase : List Run → Report → Flash → Case
 fineCase runs r f = record { geometry = fine; start = fresh 15; runs = runs; answer = r; left = f }
@@ -68,7 +68,7 @@ pub record InUnits : Type 0 where
 
 -- case j: on the flash of case a a mark_booted is cut right after its invalidation
 unfoldable pub confirmation : Call
-confirmation = mark Boot (sizes 16 .es) (sizes 16 .ws) (swapTable (sizes 16) (fresh 15) .state)
+confirmation = mark Boot (sizes 16 .state) (swapTable (sizes 16) (fresh 15) .state)
 
 pub record Unconfirmed : Type 0 where
   pub swapped : Swapped (sizes 16) (swapTable (sizes 16) (fresh 15))

@@ -6,9 +6,10 @@ use mathlib.Core.List.{List}
 use Prim.Native.Nat.{ℕ, _≤_, _<_}
 use lib.ListN.{length}
 use Rattle.state.specs.declared.State.{State}
+use Rattle.geometry.specs.declared.StateSizes.{StateSizes}
 use Rattle.geometry.specs.declared.Geometry.{Geometry}
 use Rattle.geometry.specs.declared.Sizes.{Sizes}
-use Rattle.mem_flash.specs.Flash.{Flash, applyAll, after}
+use Rattle.mem_flash.specs.Flash.{Flash, applyAll, after, Supply}
 use Rattle.rules.specs.declared.Sector.{Sector}
 use Rattle.rules.specs.Calls.{Call, report, left}
 use Rattle.rules.specs.Boot.{prepareBoot, getState}
@@ -18,26 +19,26 @@ use Rattle.rules.specs.FirmwareUpdater.{updaterGetState, updaterMarkUpdated, up
 -- one call
 pub record Lawful (c : Call) : Type 0 where
   -- it is cut exactly if it is not refused and its run without a budget would do more than k
-  pub cut : (k : ℕ) → report c k .number ≡ 7 → (c .refusal ≡ 0) × (k < length (c .ops))
-  pub cut-if : (k : ℕ) → c .refusal ≡ 0 → k < length (c .ops) → report c k .number ≡ 7
+  pub cut : (k : Supply) → report c k .number ≡ 7 → (c .refusal ≡ 0) × (k < length (c .ops))
+  pub cut-if : (k : Supply) → c .refusal ≡ 0 → k < length (c .ops) → report c k .number ≡ 7
   -- a cut leaves precisely the first k operations, and counts them
-  pub cut-leaves : (k : ℕ) (f : Flash) → report c k .number ≡ 7 → (left c k f ≡ after k (c .ops) f) × (report c k .count ≡ k)
+  pub cut-leaves : (k : Supply) (f : Flash) → report c k .number ≡ 7 → (left c k f ≡ after k (c .ops) f) × (report c k .count ≡ k)
   -- done, all operations are, and they are counted
-  pub done-leaves : (k : ℕ) (f : Flash) → report c k .number ≡ 0
+  pub done-leaves : (k : Supply) (f : Flash) → report c k .number ≡ 0
       → (left c k f ≡ applyAll (c .ops) f) × (report c k .count ≡ length (c .ops))
   -- once a budget is enough, a larger one gives the same answer and the same flash
-  pub more : (k j : ℕ) (f : Flash) → report c k .number ≡ 0 → k ≤ j → (report c j ≡ report c k) × (left c j f ≡ left c k f)
+  pub more : (k j : Supply) (f : Flash) → report c k .number ≡ 0 → k ≤ j → (report c j ≡ report c k) × (left c j f ≡ left c k f)
   -- the count never exceeds the budget
-  pub count : (k : ℕ) → report c k .count ≤ k
+  pub count : (k : Supply) → report c k .count ≤ k
   -- a refusal changes nothing, carries no state and counts 0
-  pub refused : (k : ℕ) (f : Flash) → 0 < c .refusal
+  pub refused : (k : Supply) (f : Flash) → 0 < c .refusal
       → (report c k ≡ record { number = c .refusal; state = none; count = 0 }) × (left c k f ≡ f)
 
 -- every call of the crate
 pub record EveryCall : Type 0 where
   pub boot : (g : Geometry) (f : Flash) → Lawful (prepareBoot g f)
-  pub get-state : (es ws : ℕ) (st : List ℕ) → Lawful (getState es ws st)
-  pub marks : (s : State) (es ws : ℕ) (st : List ℕ) → Lawful (mark s es ws st)
+  pub get-state : (z : StateSizes) (st : List ℕ) → Lawful (getState z st)
+  pub marks : (s : State) (z : StateSizes) (st : List ℕ) → Lawful (mark s z st)
   pub updater-get-state : (z : Sizes) (f : Flash) → Lawful (updaterGetState z f)
   pub updater-mark-updated : (z : Sizes) (f : Flash) → Lawful (updaterMarkUpdated z f)
   pub updater-mark-dfu : (z : Sizes) (f : Flash) → Lawful (updaterMarkDfu z f)
@@ -53,7 +54,7 @@ Counted c = c .refusal ≡ 0 → length (c .ops) < 4294967296
 
 pub record EveryCount : Type 0 where
   pub boot : (g : Geometry) (f : Flash) → Counted (prepareBoot g f)
-  pub marks : (s : State) (es ws : ℕ) (st : List ℕ) → Counted (mark s es ws st)
+  pub marks : (s : State) (z : StateSizes) (st : List ℕ) → Counted (mark s z st)
   pub updater-mark-updated : (z : Sizes) (f : Flash) → Counted (updaterMarkUpdated z f)
   pub updater-mark-dfu : (z : Sizes) (f : Flash) → Counted (updaterMarkDfu z f)
   pub updater-mark-booted : (z : Sizes) (f : Flash) → Counted (updaterMarkBooted z f)

@@ -14,7 +14,7 @@ use Rattle.rules.specs.Boot.{prepareBoot}
 unfoldable pub writeUnit : Geometry → Area → ℕ
 writeUnit g active = g .wa
 writeUnit g dfu = g .wd
-writeUnit g state = g .ws
+writeUnit g state = g .state .ws
 
 -- n bytes from an offset on, from edge to edge of units, in an area of so many bytes
 pub record Aligned (unit from n size : ℕ) : Type 0 where

@@ -6,7 +6,7 @@ use Prim.Native.Nat.{ℕ, _+_, _-_, _*_, _<_}
 use lib.ListN.{length, take, drop}
 use Rattle.geometry.specs.declared.Geometry.{Geometry}
 use Rattle.geometry.specs.Geometry.{page}
-use Rattle.mem_flash.specs.Flash.{Flash}
+use Rattle.mem_flash.specs.Flash.{Flash, Supply}
 use Rattle.rules.specs.Steps.{pageCount}
 use Rattle.rules.specs.Power.{pageAt, swapTable}
 use Rattle.power.specs.Power.{ran, runs, FirstWhole}
@@ -33,6 +33,6 @@ pub record RevertedPages (g : Geometry) (f x : Flash) : Type 0 where
 -- whatever is cut: the image that the first run without a cut hands over has all its pages from the new firmware, and after the
 -- revert all of them from the old
 pub record NeverMixed (g : Geometry) (f : Flash) : Type 0 where
-  pub swapped : (ks : List ℕ) (k : ℕ) → FirstWhole g ks k f → SwappedPages g f (ran g k (runs g ks f))
-  pub reverted : (ks : List ℕ) (k : ℕ) → FirstWhole g ks k (swapTable g f)
+  pub swapped : (ks : List Supply) (k : Supply) → FirstWhole g ks k f → SwappedPages g f (ran g k (runs g ks f))
+  pub reverted : (ks : List Supply) (k : Supply) → FirstWhole g ks k (swapTable g f)
       → RevertedPages g f (ran g k (runs g ks (swapTable g f)))

@@ -11,7 +11,7 @@ use Rattle.state.specs.declared.State.the-variants.{Boot, Swap, Revert}
 use Rattle.geometry.specs.declared.Geometry.{Geometry}
 use Rattle.geometry.specs.Geometry.{words}
 use Rattle.geometry.specs.Refusals.{bootRefusal}
-use Rattle.mem_flash.specs.Flash.{dfu, Flash, blank}
+use Rattle.mem_flash.specs.Flash.{dfu, Flash, blank, Supply, count}
 use Rattle.mem_flash.specs.Areas.{Bytes}
 use Rattle.rules.specs.StateArea.{readState, progress}
 use Rattle.rules.specs.Steps.{pageCount}
@@ -37,65 +37,65 @@ pub record Ready (g : Geometry) (f : Flash) : Type 0 where
 abbrev pub EnoughWords : Geometry → Flash → Type 0
 EnoughWords g f =
     bootRefusal g (length (f .active)) (length (f .dfu)) (length (f .state)) ≡ 0
-    → 4 * pageCount g f + 3 ≤ words (g .ws) (length (f .state))
+    → 4 * pageCount g f + 3 ≤ words (g .state .ws) (length (f .state))
 
 -- ---- runs
 
 -- what a run of prepare_boot with a budget of k answers, and the flash that it leaves
-unfoldable pub answer : Geometry → ℕ → Flash → Report
+unfoldable pub answer : Geometry → Supply → Flash → Report
 answer g k f = report (prepareBoot g f) k
 
-unfoldable pub ran : Geometry → ℕ → Flash → Flash
+unfoldable pub ran : Geometry → Supply → Flash → Flash
 ran g k f = left (prepareBoot g f) k f
 
 -- the run is cut: it answers number 7
-unfoldable pub Cut : Geometry → ℕ → Flash → Type 0
+unfoldable pub Cut : Geometry → Supply → Flash → Type 0
 Cut g k f = answer g k f .number ≡ 7
 
 -- the flash after a run for each budget, one after the other
-unfoldable pub runs : Geometry → List ℕ → Flash → Flash
+unfoldable pub runs : Geometry → List Supply → Flash → Flash
 runs g [] f = f
 runs g (k ∷ ks) f = runs g ks (ran g k f)
 
 -- each of these runs is cut
-unfoldable pub AllCut : Geometry → List ℕ → Flash → Type 0
+unfoldable pub AllCut : Geometry → List Supply → Flash → Type 0
 AllCut g [] f = Unit {0}
 AllCut g (k ∷ ks) f = Cut g k f × AllCut g ks (ran g k f)
 
 -- the runs of ks are cut, and the next one, with a budget of k, is not
-pub record FirstWhole (g : Geometry) (ks : List ℕ) (k : ℕ) (f : Flash) : Type 0 where
+pub record FirstWhole (g : Geometry) (ks : List Supply) (k : Supply) (f : Flash) : Type 0 where
   pub cuts : AllCut g ks f
   pub whole : Cut g k (runs g ks f) → ⊥
 
 -- that next run is done with the state s, and leaves the flash h
-pub record Ends (g : Geometry) (ks : List ℕ) (k : ℕ) (f : Flash) (s : State) (h : Flash) : Type 0 where
+pub record Ends (g : Geometry) (ks : List Supply) (k : Supply) (f : Flash) (s : State) (h : Flash) : Type 0 where
   pub number : answer g k (runs g ks f) .number ≡ 0
   pub state : answer g k (runs g ks f) .state ≡ some s
   pub flash : ran g k (runs g ks f) ≡ h
 
 -- every budget is n or more, and every budget is below n
-unfoldable pub AllAtLeast : ℕ → List ℕ → Type 0
+unfoldable pub AllAtLeast : ℕ → List Supply → Type 0
 AllAtLeast n [] = Unit {0}
-AllAtLeast n (k ∷ ks) = (n ≤ k) × AllAtLeast n ks
+AllAtLeast n (k ∷ ks) = (n ≤ count k) × AllAtLeast n ks
 
-unfoldable pub AllBelow : ℕ → List ℕ → Type 0
+unfoldable pub AllBelow : ℕ → List Supply → Type 0
 AllBelow n [] = Unit {0}
-AllBelow n (k ∷ ks) = (k < n) × AllBelow n ks
+AllBelow n (k ∷ ks) = (count k < n) × AllBelow n ks
 
 -- ---- the promise
 
 -- the last of these runs was cut with r operations left to do: in a revert that is inside the state's erase, or right after it,
 -- if r is at least 1 (the magic) and at most the number of the state's units
-unfoldable pub Short : ℕ → Geometry → List ℕ → Flash → Type 0
+unfoldable pub Short : ℕ → Geometry → List Supply → Flash → Type 0
 Short r g [] f = ⊥
-Short r g (k ∷ []) f = k + r ≡ length (prepareBoot g f .ops)
+Short r g (k ∷ []) f = count k + r ≡ length (prepareBoot g f .ops)
 Short r g (k ∷ j ∷ ks) f = Short r g (j ∷ ks) (ran g k f)
 
-unfoldable pub InErase : Geometry → List ℕ → Flash → Type 0
+unfoldable pub InErase : Geometry → List Supply → Flash → Type 0
 InErase g ks f = (r : ℕ) × (1 ≤ r) × (r ≤ stateUnits g f) × Short r g ks f
 
 -- the cut runs have reached the flash h, and the next one answers Boot with no operation
-pub record Rests (g : Geometry) (ks : List ℕ) (k : ℕ) (f h : Flash) : Type 0 where
+pub record Rests (g : Geometry) (ks : List Supply) (k : Supply) (f h : Flash) : Type 0 where
   pub reached : runs g ks f ≡ h
   pub answers : answer g k (runs g ks f) ≡ record { number = 0; state = some Boot; count = 0 }
   pub flash : ran g k (runs g ks f) ≡ h
@@ -103,38 +103,38 @@ pub record Rests (g : Geometry) (ks : List ℕ) (k : ℕ) (f h : Flash) : Type 0
 -- from the flash f, freshly marked: cut anywhere, any number of times
 pub record Power (g : Geometry) (f : Flash) : Type 0 where
   -- the first run that is not cut leaves the swap table
-  pub swaps : (ks : List ℕ) (k : ℕ) → FirstWhole g ks k f → Ends g ks k f Swap (swapTable g f)
+  pub swaps : (ks : List Supply) (k : Supply) → FirstWhole g ks k f → Ends g ks k f Swap (swapTable g f)
   -- from there the first run that is not cut leaves the revert's images, with the Revert magic
-  pub reverts : (ks : List ℕ) (k : ℕ) → FirstWhole g ks k (swapTable g f) → (InErase g ks (swapTable g f) → ⊥)
+  pub reverts : (ks : List Supply) (k : Supply) → FirstWhole g ks k (swapTable g f) → (InErase g ks (swapTable g f) → ⊥)
       → Ends g ks k (swapTable g f) Swap (reverted g f)
   -- or, if the last cut fell inside the state's erase or after it, with the units erased that were, and the rest as they were
-  pub rests : (ks : List ℕ) (k r : ℕ) → FirstWhole g ks k (swapTable g f) → 1 ≤ r → r ≤ stateUnits g f → Short r g ks (swapTable g f)
+  pub rests : (ks : List Supply) (k : Supply) (r : ℕ) → FirstWhole g ks k (swapTable g f) → 1 ≤ r → r ≤ stateUnits g f → Short r g ks (swapTable g f)
       → Rests g ks k (swapTable g f) (revertedPart g (stateUnits g f + 1 - r) f)
   -- which, after the whole of the erase, is a state area all erased
   pub erased-whole : revertedPart g (stateUnits g f) f ≡ revertedErased g f
   -- with the dearer step's cost at each run, the first that is not cut is at latest the 2N-th, and in the revert the (2N + 2)-th
-  pub swap-soon : (ks : List ℕ) → AllAtLeast (dearerCost g) ks → AllCut g ks f → length ks < 2 * pageCount g f
-  pub revert-soon : (ks : List ℕ) → AllAtLeast (dearerCost g) ks → AllCut g ks (swapTable g f) → length ks < 2 * pageCount g f + 2
+  pub swap-soon : (ks : List Supply) → AllAtLeast (dearerCost g) ks → AllCut g ks f → length ks < 2 * pageCount g f
+  pub revert-soon : (ks : List Supply) → AllAtLeast (dearerCost g) ks → AllCut g ks (swapTable g f) → length ks < 2 * pageCount g f + 2
   -- and the (2N + 1)-th, where a run that has a step's cost can also end the revert: invalidate, erase, write the magic
-  pub revert-sooner : (ks : List ℕ) → 2 + stateUnits g f ≤ dearerCost g → AllAtLeast (dearerCost g) ks → AllCut g ks (swapTable g f)
+  pub revert-sooner : (ks : List Supply) → 2 + stateUnits g f ≤ dearerCost g → AllAtLeast (dearerCost g) ks → AllCut g ks (swapTable g f)
       → length ks < 2 * pageCount g f + 1
   -- a run of the swap that is cut gains a step exactly if it has the next step's cost
-  pub swap-gains : (ks : List ℕ) (k : ℕ) → AllCut g ks f → Cut g k (runs g ks f) → nextCost g (runs g ks f) ≤ k
-      → progress (g .ws) (runs g ks f .state) < progress (g .ws) (ran g k (runs g ks f) .state)
-  pub swap-stays : (ks : List ℕ) (k : ℕ) → AllCut g ks f → Cut g k (runs g ks f) → k < nextCost g (runs g ks f)
-      → progress (g .ws) (ran g k (runs g ks f) .state) ≡ progress (g .ws) (runs g ks f .state)
+  pub swap-gains : (ks : List Supply) (k : Supply) → AllCut g ks f → Cut g k (runs g ks f) → nextCost g (runs g ks f) ≤ count k
+      → progress (g .state) (runs g ks f .state) < progress (g .state) (ran g k (runs g ks f) .state)
+  pub swap-stays : (ks : List Supply) (k : Supply) → AllCut g ks f → Cut g k (runs g ks f) → count k < nextCost g (runs g ks f)
+      → progress (g .state) (ran g k (runs g ks f) .state) ≡ progress (g .state) (runs g ks f .state)
   -- and so does a run of the revert that is cut with steps of it left, where the state area still reads Swap behind it
-  pub revert-gains : (ks : List ℕ) (k : ℕ) → AllCut g ks (swapTable g f) → Cut g k (runs g ks (swapTable g f))
-      → progress (g .ws) (runs g ks (swapTable g f) .state) < 4 * pageCount g f → nextCost g (runs g ks (swapTable g f)) ≤ k
-      → readState (g .ws) (ran g k (runs g ks (swapTable g f)) .state) ≡ Swap
-      → progress (g .ws) (runs g ks (swapTable g f) .state) < progress (g .ws) (ran g k (runs g ks (swapTable g f)) .state)
-  pub revert-stays : (ks : List ℕ) (k : ℕ) → AllCut g ks (swapTable g f) → Cut g k (runs g ks (swapTable g f))
-      → progress (g .ws) (runs g ks (swapTable g f) .state) < 4 * pageCount g f → k < nextCost g (runs g ks (swapTable g f))
-      → progress (g .ws) (ran g k (runs g ks (swapTable g f)) .state) ≡ progress (g .ws) (runs g ks (swapTable g f) .state)
+  pub revert-gains : (ks : List Supply) (k : Supply) → AllCut g ks (swapTable g f) → Cut g k (runs g ks (swapTable g f))
+      → progress (g .state) (runs g ks (swapTable g f) .state) < 4 * pageCount g f → nextCost g (runs g ks (swapTable g f)) ≤ count k
+      → readState (g .state) (ran g k (runs g ks (swapTable g f)) .state) ≡ Swap
+      → progress (g .state) (runs g ks (swapTable g f) .state) < progress (g .state) (ran g k (runs g ks (swapTable g f)) .state)
+  pub revert-stays : (ks : List Supply) (k : Supply) → AllCut g ks (swapTable g f) → Cut g k (runs g ks (swapTable g f))
+      → progress (g .state) (runs g ks (swapTable g f) .state) < 4 * pageCount g f → count k < nextCost g (runs g ks (swapTable g f))
+      → progress (g .state) (ran g k (runs g ks (swapTable g f)) .state) ≡ progress (g .state) (runs g ks (swapTable g f) .state)
   -- with one operation less than the first step's cost, always, every run is cut and no step is gained
-  pub swap-never : (ks : List ℕ) → AllBelow (stepCost g dfu) ks → AllCut g ks f × (progress (g .ws) (runs g ks f .state) ≡ 0)
-  pub revert-never : (ks : List ℕ) → AllBelow (stepCost g dfu) ks
-      → AllCut g ks (swapTable g f) × (progress (g .ws) (runs g ks (swapTable g f) .state) ≡ 2 * pageCount g f)
+  pub swap-never : (ks : List Supply) → AllBelow (stepCost g dfu) ks → AllCut g ks f × (progress (g .state) (runs g ks f .state) ≡ 0)
+  pub revert-never : (ks : List Supply) → AllBelow (stepCost g dfu) ks
+      → AllCut g ks (swapTable g f) × (progress (g .state) (runs g ks (swapTable g f) .state) ≡ 2 * pageCount g f)
 
 -- ---- no pages: N = 0 counts as already swapped
 
@@ -145,8 +145,8 @@ restated st f = record { active = f .active; dfu = f .dfu; state = st }
 -- a freshly marked flash is the swap table; so the revert begins at once, with its last operations, and touches no image
 pub record NoPages (g : Geometry) (f : Flash) : Type 0 where
   pub swapped : swapTable g f ≡ f
-  pub at-once : (k : ℕ) → 2 + stateUnits g f ≤ k → answer g k f ≡ record { number = 0; state = some Swap; count = 2 + stateUnits g f }
-  pub reverts : (ks : List ℕ) (k : ℕ) → FirstWhole g ks k f → (InErase g ks f → ⊥)
-      → Ends g ks k f Swap (restated (magicArea (g .ws) Revert (length (f .state))) f)
-  pub rests : (ks : List ℕ) (k r : ℕ) → FirstWhole g ks k f → 1 ≤ r → r ≤ stateUnits g f → Short r g ks f
-      → Rests g ks k f (restated (blank ((stateUnits g f + 1 - r) * g .es) (revertMarks (g .ws) 0 (length (f .state)))) f)
+  pub at-once : (k : Supply) → 2 + stateUnits g f ≤ count k → answer g k f ≡ record { number = 0; state = some Swap; count = 2 + stateUnits g f }
+  pub reverts : (ks : List Supply) (k : Supply) → FirstWhole g ks k f → (InErase g ks f → ⊥)
+      → Ends g ks k f Swap (restated (magicArea (g .state) Revert (length (f .state))) f)
+  pub rests : (ks : List Supply) (k : Supply) (r : ℕ) → FirstWhole g ks k f → 1 ≤ r → r ≤ stateUnits g f → Short r g ks f
+      → Rests g ks k f (restated (blank ((stateUnits g f + 1 - r) * g .state .es) (revertMarks (g .state) 0 (length (f .state)))) f)

@@ -7,9 +7,10 @@ use Prim.Native.Nat.{ℕ, zero, suc, _+_, _-_, _*_, _/_, _≤_, _<_}
 use native.Mathlib.Nat.{div-mul-le-self, mul-le-mul-right}
 use native.Mathlib.Decide.{decLe}
 use native.Mathlib.Omega.{arith}
-use lib.ListN.{length, take, getD, replicate, length-append, length-replicate}
+use lib.ListN.{length, take, length-append, length-replicate}
 use lib.Seq.{length-take-le}
 use Rattle.state.specs.declared.State.the-variants.{Boot, Swap}
+use Rattle.geometry.specs.declared.StateSizes.{StateSizes}
 use Rattle.geometry.specs.declared.Geometry.{Geometry}
 use Rattle.geometry.specs.Geometry.{pages, words}
 use Rattle.geometry.specs.Refusals.{bootWords}
@@ -20,7 +21,7 @@ use Rattle.rules.specs.Steps.{pageCount}
 use Rattle.rules.specs.Calls.{Report, reported}
 use Rattle.rules.specs.Boot.{prepareBoot}
 use Rattle.rules.specs.Power.{swapMarks, swapTable, revertImages, reverted, revertedPart, stateUnits, dearerCost}
-use Rattle.power.specs.Power.{Ready, ran, runs, AllCut, FirstWhole, Short, InErase, AllAtLeast, Power}
+use Rattle.power.specs.Power.{Ready, ran, AllCut, Short, InErase, AllAtLeast, Power}
 use Rattle.power.proofs.Proved.{power}
 use Rattle.power_cycles.specs.Cycles.{Whole, Made, SwapOf, Reverted, AtLatest, Cycles}
 use Rattle.power_cycles.proofs.Made.{all-cut, First, found}
@@ -72,9 +73,9 @@ at-most u g (k ∷ []) f = go (decLe (k + 1) n) (decLe n (k + u))
 at-most u g (k ∷ j ∷ ks) f = at-most u g (j ∷ ks) (ran g k f)
 
 -- the swap table's state area is as long as before
-marks-length : (ws count n : ℕ) → (2 + 2 * count) * ws ≤ n → length (swapMarks ws count n) ≡ n
+marks-length : (z : StateSizes) (count n : ℕ) → (2 + 2 * count) * z .ws ≤ n → length (swapMarks z count n) ≡ n
 unfolding swapMarks
-marks-length ws count n h = simp (length-append, length-replicate) (omega arith)
+marks-length z count n h = simp (length-append, length-replicate) (omega arith)
 
 module _ (g : Geometry) (f : Flash) (ready : Ready g f) where
   same-units : stateUnits g (swapTable g f) ≡ stateUnits g f
@@ -82,8 +83,10 @@ module _ (g : Geometry) (f : Flash) (ready : Ready g f) where
   same-units =
       let a = admitted g _ _ _ (ready .marked .admitted) in
       let N : ℕ = pages g (length (f .active)) in
-      let enough : (2 + 2 * N) * g .ws ≤ length (f .state) / g .ws * g .ws = mul-le-mul-right (g .ws) (omega (arith, a .state-words)) in
-      ap (λ (n : ℕ). n / g .es) (marks-length (g .ws) N (length (f .state)) (omega (arith, enough, div-mul-le-self (length (f .state)) (g .ws))))
+      let w : ℕ = g .state .ws in
+      let enough : (2 + 2 * N) * w ≤ length (f .state) / w * w = mul-le-mul-right w (omega (arith, a .state-words)) in
+      ap (λ (n : ℕ). n / g .state .es)
+      (marks-length (g .state) N (length (f .state)) (omega (arith, enough, div-mul-le-self (length (f .state)) w)))
 
   p : Power g f
   p = power g f ready

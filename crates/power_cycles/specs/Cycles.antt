@@ -44,7 +44,7 @@ pub record SwapOf (g : Geometry) (f₀ f : Flash) : Type 0 where
   pub table : f ≡ swapTable g f₀
 
 -- the revert's two images, of the flash f₀ before the swap. The state area has the Revert magic; or, where a cut fell into its erase
--- or right after it, its first u units are erased (all of them, perhaps) and the rest is as the revert's last mark left it
+-- or right after it, its first u units are erased (all of them, perhaps) and the rest is as it was when the erase began
 pub record Reverted (g : Geometry) (f₀ f′ : Flash) (r : Answer) : Type 0 where
   pub active : f′ .active ≡ f₀ .active
   pub dfu : f′ .dfu ≡ reverted g f₀ .dfu

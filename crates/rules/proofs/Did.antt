@@ -4,18 +4,18 @@ use mathlib.Core.Path.{_≡_, refl, ap, _∙_, sym}
 use mathlib.Core.Bool.{Bool, true, false}
 use mathlib.Core.Option.{none, some}
 use mathlib.Core.List.{List, []}
-use Prim.Native.Nat.{ℕ, _-_, _≤_, _<_}
+use Prim.Native.Nat.{ℕ, _-_, _≤_}
 use native.Mathlib.Omega.{arith}
-use lib.Dec.{leb, eqb, leb·zero, lit<}
+use lib.Dec.{leb, eqb, leb·zero}
 use lib.ListN.{length}
 use borrow.Author.Tests.{eq-eqb, ne-eqb, le-leb, leb-true}
 use Rattle.state.specs.declared.State.{State}
 use Rattle.state.specs.Choice.{pick}
 use Rattle.geometry.specs.declared.Refusal.{Refusal}
-use Rattle.geometry.specs.declared.Refusal.the-variants.{Limit, Page, Area, StateArea, BadState, Range}
 use Rattle.geometry.specs.declared.Verdict.{Verdict}
 use Rattle.geometry.specs.declared.Verdict.the-variants as verdicts
 use Rattle.geometry.specs.Refusals.{number, verdict}
+use Rattle.geometry.proofs.Tests.{number-some}
 use Rattle.mem_flash.specs.declared.Budget.{Budget}
 use Rattle.mem_flash.specs.declared.Flow.{Flow}
 use Rattle.mem_flash.specs.declared.Flow.the-variants as flows
@@ -24,16 +24,6 @@ use Rattle.mem_flash.specs.Run.{on, outcome, Ran}
 use Rattle.mem_flash.proofs.After.{after-none}
 use Rattle.rules.specs.declared.Answer.the-variants.{Found, Done, Refused, Cut}
 use Rattle.rules.specs.Calls.{Call, reported, report, left, Did}
-
--- a refusal has a number of its own
-pub number-some : (w : Refusal) → 0 < number w
-unfolding number
-number-some Limit = lit< tt
-number-some Page = lit< tt
-number-some Area = lit< tt
-number-some StateArea = lit< tt
-number-some BadState = lit< tt
-number-some Range = lit< tt
 
 -- a call is admitted just if its verdict says so
 pub verdict-admitted : (v : Verdict) (n : ℕ) → verdict v ≡ n → v ≡ verdicts.Admitted → n ≡ 0

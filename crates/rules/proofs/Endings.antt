@@ -3,7 +3,7 @@ use mathlib.Core.Path.{_≡_, ap}
 use mathlib.Core.Bool.{Bool, true, false}
 use mathlib.Core.Option.{none}
 use mathlib.Core.List.{List, [], _∷_}
-use Prim.Native.Nat.{ℕ, suc, _+_, _≤_, _<_, zero-le}
+use Prim.Native.Nat.{ℕ, _≤_, _<_}
 use native.Mathlib.Nat.{lt-of-not-le}
 use native.Mathlib.Decide.{decLe}
 use native.Mathlib.Omega.{arith}
@@ -13,7 +13,10 @@ use borrow.Author.Tests.{eq-eqb, ne-eqb, le-leb, lt-leb}
 use Rattle.state.specs.Choice.{pick}
 use Rattle.geometry.specs.declared.Geometry.{Geometry}
 use Rattle.geometry.specs.declared.Sizes.{Sizes}
-use Rattle.geometry.specs.Refusals.{rowFrom, lowest, bootRefusal, stateRefusal, updaterRefusal}
+use Rattle.geometry.specs.declared.StateSizes.{StateSizes}
+use Rattle.geometry.specs.declared.Refusal.{Refusal}
+use Rattle.geometry.specs.declared.Refusal.the-variants.{Limit, Page, Area, StateArea, BadState, Range}
+use Rattle.geometry.specs.Refusals.{number, Row, row, firstRow, bootRefusal, stateRefusal, updaterRefusal}
 use Rattle.mem_flash.specs.Flash.{Flash, after}
 use Rattle.rules.specs.Calls.{Report, Call, report, left}
 
@@ -72,24 +75,29 @@ module _ (c : Call) (table : c .refusal < 7) where
 
 -- ---- the calls of the crate: the table of each has no row 7
 
-row-most : (n : ℕ) (bs : List Bool) → rowFrom (suc n) bs ≤ n + length bs
-unfolding rowFrom pick
-row-most n [] = zero-le
-row-most n (true ∷ bs) = omega arith
-row-most n (false ∷ bs) = omega (arith, row-most (suc n) bs)
+number-below : (r : Refusal) → number r < 7
+unfolding number
+number-below Limit = lit< tt
+number-below Page = lit< tt
+number-below Area = lit< tt
+number-below StateArea = lit< tt
+number-below BadState = lit< tt
+number-below Range = lit< tt
 
-lowest-below : (bs : List Bool) → length bs < 7 → lowest bs < 7
-unfolding lowest
-lowest-below bs h = omega (arith, row-most 0 bs)
+rows-below : (rs : List Row) → firstRow rs < 7
+unfolding firstRow pick
+rows-below [] = lit< tt
+rows-below (row r true ∷ rs) = number-below r
+rows-below (row r false ∷ rs) = rows-below rs
 
 pub boot-rows : (g : Geometry) (la ld ls : ℕ) → bootRefusal g la ld ls < 7
 unfolding bootRefusal
-boot-rows g la ld ls = lowest-below _ (lit< tt)
+boot-rows g la ld ls = rows-below _
 
-pub state-rows : (es ws ls : ℕ) → stateRefusal es ws ls < 7
+pub state-rows : (z : StateSizes) (ls : ℕ) → stateRefusal z ls < 7
 unfolding stateRefusal
-state-rows es ws ls = lowest-below _ (lit< tt)
+state-rows z ls = rows-below _
 
 pub updater-rows : (z : Sizes) (ld ls : ℕ) (swap range : Bool) → updaterRefusal z ld ls swap range < 7
 unfolding updaterRefusal
-updater-rows z ld ls swap range = lowest-below _ (lit< tt)
+updater-rows z ld ls swap range = rows-below _

@@ -11,6 +11,7 @@ use lib.ListN.{length, take, drop, replicate, length-drop}
 use lib.Seq.{drop-at, length-take-le}
 use Rattle.state.specs.Choice.{pick}
 use Rattle.state.specs.Magic.{erased, marked, throughout, holds, stateOf}
+use Rattle.geometry.specs.declared.StateSizes.{StateSizes}
 use Rattle.geometry.specs.Geometry.{words}
 use Rattle.mem_flash.specs.Flash.{program, writtenAt}
 use Rattle.mem_flash.proofs.Bytes.{programmed-marked, marked-not-erased}
@@ -42,95 +43,95 @@ differ : true ≡ false → ⊥
 differ e = let z : _≡_ {A = ℕ} 0 1 = cc in omega arith
 
 -- the marks that the search has passed are done
-passed : (w : ℕ) (st : List ℕ) (n i q : ℕ) → i ≤ q → q < firstOpen w st n i → markOpen w st q ≡ false
+passed : (z : StateSizes) (st : List ℕ) (n i q : ℕ) → i ≤ q → q < firstOpen z st n i → markOpen z st q ≡ false
 unfolding firstOpen pick
-passed w st zero i q lo hi = absurd (omega arith)
-passed w st (suc n) i q lo hi = go (markOpen w st i) refl hi (λ l h. passed w st n (suc i) q l h)
+passed z st zero i q lo hi = absurd (omega arith)
+passed z st (suc n) i q lo hi = go (markOpen z st i) refl hi (λ l h. passed z st n (suc i) q l h)
   where
-    go : (b : Bool) → markOpen w st i ≡ b → q < pick b i (firstOpen w st n (suc i))
-        → (i < q → q < firstOpen w st n (suc i) → markOpen w st q ≡ false) → markOpen w st q ≡ false
+    go : (b : Bool) → markOpen z st i ≡ b → q < pick b i (firstOpen z st n (suc i))
+        → (i < q → q < firstOpen z st n (suc i) → markOpen z st q ≡ false) → markOpen z st q ≡ false
     go true e h rest = absurd (omega arith)
     go false e h rest = later (decLt i q)
       where
-        later : Dec (i < q) → markOpen w st q ≡ false
+        later : Dec (i < q) → markOpen z st q ≡ false
         later (yes l) = rest l h
-        later (no l) = let z : q ≡ i = omega arith in rw z e
+        later (no l) = let o : q ≡ i = omega arith in rw o e
 
 -- and it passes every mark that is done
-passes : (w : ℕ) (st : List ℕ) (n i j : ℕ) → j ≤ i + n → ((q : ℕ) → i ≤ q → q < j → markOpen w st q ≡ false)
-    → j ≤ firstOpen w st n i
+passes : (z : StateSizes) (st : List ℕ) (n i j : ℕ) → j ≤ i + n → ((q : ℕ) → i ≤ q → q < j → markOpen z st q ≡ false)
+    → j ≤ firstOpen z st n i
 unfolding firstOpen pick
-passes w st zero i j h d = omega arith
-passes w st (suc n) i j h d =
-    go (markOpen w st i) refl (passes w st n (suc i) j (omega arith) (λ q x y. d q (omega arith) y)) (decLt i j)
+passes z st zero i j h d = omega arith
+passes z st (suc n) i j h d =
+    go (markOpen z st i) refl (passes z st n (suc i) j (omega arith) (λ q x y. d q (omega arith) y)) (decLt i j)
   where
-    go : (b : Bool) → markOpen w st i ≡ b → j ≤ firstOpen w st n (suc i) → Dec (i < j) → j ≤ pick b i (firstOpen w st n (suc i))
+    go : (b : Bool) → markOpen z st i ≡ b → j ≤ firstOpen z st n (suc i) → Dec (i < j) → j ≤ pick b i (firstOpen z st n (suc i))
     go true e rest (yes l) = absurd (differ (sym e ∙ d i (omega arith) l))
     go true e rest (no l) = omega arith
     go false e rest l = rest
 
 -- ---- a mark written
 
-unfoldable pub withMark : ℕ → ℕ → List ℕ → List ℕ
-withMark w i st = writtenAt ((2 + i) * w) (replicate w marked) st
+unfoldable pub withMark : StateSizes → ℕ → List ℕ → List ℕ
+withMark z i st = writtenAt ((2 + i) * z .ws) (replicate (z .ws) marked) st
 
-module _ (w i : ℕ) (st : List ℕ) where
+module _ (z : StateSizes) (i : ℕ) (st : List ℕ) where
   -- the words before it
-  word-before : (j : ℕ) → j < 2 + i → word w j (withMark w i st) ≡ word w j st
+  word-before : (j : ℕ) → j < 2 + i → word z j (withMark z i st) ≡ word z j st
   unfolding word withMark
   word-before j l =
-      let m : suc j * w ≤ (2 + i) * w = mul-le-mul-right w (omega arith) in
-      part-before (j * w) w ((2 + i) * w) (replicate w marked) st (omega arith)
+      let m : suc j * z .ws ≤ (2 + i) * (z .ws) = mul-le-mul-right (z .ws) (omega arith) in
+      part-before (j * z .ws) (z .ws) ((2 + i) * z .ws) (replicate (z .ws) marked) st (omega arith)
 
-  pub same-state : readState w (withMark w i st) ≡ readState w st
+  pub same-state : readState z (withMark z i st) ≡ readState z st
   unfolding readState
   same-state = ap stateOf (word-before 0 (omega arith))
 
-  same-length : length (withMark w i st) ≡ length st
+  same-length : length (withMark z i st) ≡ length st
   unfolding withMark
-  same-length = length-written ((2 + i) * w) (replicate w marked) st
+  same-length = length-written ((2 + i) * z .ws) (replicate (z .ws) marked) st
 
-  module _ (here : i < mostMarks w st) where
+  module _ (here : i < mostMarks z st) where
     -- its own word
-    own-done : markOpen w (withMark w i st) i ≡ false
+    own-done : markOpen z (withMark z i st) i ≡ false
     unfolding markOpen word withMark writtenAt mostMarks words
     own-done =
-        let t : 2 + i < length st / w = omega arith in
-        let h : (2 + i) * w + w ≤ length st =
-        omega (arith, mul-le-mul-right {m = suc (2 + i)} w t, div-mul-le-self (length st) w) in
-        let q : length (take ((2 + i) * w) st) ≡ (2 + i) * w = length-take-le ((2 + i) * w) st (omega arith) in
-        ap (λ (l : List ℕ). holds erased (take w l))
-        (drop-at (take ((2 + i) * w) st) (program (drop ((2 + i) * w) st) (replicate w marked)) ((2 + i) * w) q)
-        ∙ ap (holds erased) (program-marked w (drop ((2 + i) * w) st) (simp length-drop (omega arith)))
-        ∙ holds-other w erased marked marked-not-erased
+        let t : 2 + i < length st / (z .ws) = omega arith in
+        let h : (2 + i) * z .ws + z .ws ≤ length st =
+        omega (arith, mul-le-mul-right {m = suc (2 + i)} (z .ws) t, div-mul-le-self (length st) (z .ws)) in
+        let q : length (take ((2 + i) * z .ws) st) ≡ (2 + i) * (z .ws) = length-take-le ((2 + i) * z .ws) st (omega arith) in
+        ap (λ (l : List ℕ). holds erased (take (z .ws) l))
+        (drop-at (take ((2 + i) * z .ws) st) (program (drop ((2 + i) * z .ws) st) (replicate (z .ws) marked)) ((2 + i) * z .ws) q)
+        ∙ ap (holds erased) (program-marked (z .ws) (drop ((2 + i) * z .ws) st) (simp length-drop (omega arith)))
+        ∙ holds-other (z .ws) erased marked marked-not-erased
 
-    same-open : (q : ℕ) → q < i → markOpen w (withMark w i st) q ≡ markOpen w st q
+    same-open : (q : ℕ) → q < i → markOpen z (withMark z i st) q ≡ markOpen z st q
     unfolding markOpen
     same-open q l = ap (holds erased) (word-before (2 + q) (omega arith))
 
-    same-valid : valid w (withMark w i st) ≡ valid w st
+    same-valid : valid z (withMark z i st) ≡ valid z st
     unfolding valid
     same-valid = ap (throughout erased) (word-before 1 (omega arith))
 
-    same-most : mostMarks w (withMark w i st) ≡ mostMarks w st
+    same-most : mostMarks z (withMark z i st) ≡ mostMarks z st
     unfolding mostMarks
-    same-most = ap (λ (n : ℕ). words w n - 3) same-length
+    same-most = ap (λ (n : ℕ). words (z .ws) n - 3) same-length
 
     -- the progress passes the mark
-    pub mark-passes : progress w st ≡ i → i < progress w (withMark w i st)
+    pub mark-passes : progress z st ≡ i → i < progress z (withMark z i st)
     unfolding marksDone
-    mark-passes e = go (valid w st) refl
+    mark-passes e = go (valid z st) refl
       where
-        below : firstOpen w st (mostMarks w st) 0 ≡ i → (q : ℕ) → 0 ≤ q → q < suc i → markOpen w (withMark w i st) q ≡ false
-        below f q z l = which (decLt q i)
+        below : firstOpen z st (mostMarks z st) 0 ≡ i → (q : ℕ) → 0 ≤ q → q < suc i → markOpen z (withMark z i st) q ≡ false
+        below f q o l = which (decLt q i)
           where
-            which : Dec (q < i) → markOpen w (withMark w i st) q ≡ false
-            which (yes m) = same-open q m ∙ passed w st (mostMarks w st) 0 q z (rw f m)
+            which : Dec (q < i) → markOpen z (withMark z i st) q ≡ false
+            which (yes m) = same-open q m ∙ passed z st (mostMarks z st) 0 q o (rw f m)
             which (no m) = let y : q ≡ i = omega arith in rw y own-done
 
-        go : (b : Bool) → valid w st ≡ b → i < progress w (withMark w i st)
+        go : (b : Bool) → valid z st ≡ b → i < progress z (withMark z i st)
         go true v =
-            let f : firstOpen w st (mostMarks w st) 0 ≡ i = sym (progress-valid w st v) ∙ e in
-            rw (progress-valid w (withMark w i st) (same-valid ∙ v), same-most)
-            (passes w (withMark w i st) (mostMarks w st) 0 (suc i) (omega (arith, here)) (below f))
-        go false v = absurd (omega (arith, here, e, progress-invalid w st v))
+            let f : firstOpen z st (mostMarks z st) 0 ≡ i = sym (progress-valid z st v) ∙ e in
+            rw (progress-valid z (withMark z i st) (same-valid ∙ v), same-most)
+            (passes z (withMark z i st) (mostMarks z st) 0 (suc i) (omega (arith, here)) (below f))
+        go false v = absurd (omega (arith, here, e, progress-invalid z st v))

@@ -15,6 +15,7 @@ use borrow.Author.Tests.{lt-ltb, le-ltb}
 use Rattle.state.specs.declared.State.the-variants.{Boot, Swap}
 use Rattle.state.specs.Choice.{pick}
 use Rattle.state.specs.Magic.{erased, marked, magic, throughout, stateOf}
+use Rattle.geometry.specs.declared.StateSizes.{StateSizes}
 use Rattle.geometry.specs.Geometry.{words}
 use Rattle.mem_flash.specs.Flash.{writtenAt}
 use Rattle.mem_flash.proofs.Bytes.{programmed-marked, marked-not-erased}
@@ -47,94 +48,94 @@ getD-open n r h =
     ap (λ (k : ℕ). getD (replicate n marked ++ replicate r erased) k 0) e
     ∙ getD-append-add (replicate n marked) (replicate r erased) 0 0 ∙ getD-replicate r 0 erased 0 h
 
-module _ (w : ℕ) (some : 0 < w) (v n r : ℕ) (more : 0 < r) where
+module _ (z : StateSizes) (some : 0 < z .ws) (v n r : ℕ) (more : 0 < r) where
   reads : (k : ℕ) → k < n + r
-      → word w (2 + k) (spread w (markWords v n r)) ≡ replicate w (getD (replicate n marked ++ replicate r erased) k 0)
+      → word z (2 + k) (spread (z .ws) (markWords v n r)) ≡ replicate (z .ws) (getD (replicate n marked ++ replicate r erased) k 0)
   unfolding markWords
   reads k h =
       let e : 2 + k ≡ suc (suc k) = omega arith in
-      ap (λ (i : ℕ). word w i (spread w (markWords v n r))) e
-      ∙ word-spread w (suc (suc k)) (markWords v n r) (omega (arith, length-runs n r))
+      ap (λ (i : ℕ). word z i (spread (z .ws) (markWords v n r))) e
+      ∙ word-spread z (suc (suc k)) (markWords v n r) (omega (arith, length-runs n r))
 
-  done-mark : (k : ℕ) → k < n → markOpen w (spread w (markWords v n r)) k ≡ false
+  done-mark : (k : ℕ) → k < n → markOpen z (spread (z .ws) (markWords v n r)) k ≡ false
   unfolding markOpen
-  done-mark k h = rw (reads k (omega arith), getD-done n r k h) (holds-other w erased marked marked-not-erased)
+  done-mark k h = rw (reads k (omega arith), getD-done n r k h) (holds-other (z .ws) erased marked marked-not-erased)
 
-  mark-left : markOpen w (spread w (markWords v n r)) n ≡ true
+  mark-left : markOpen z (spread (z .ws) (markWords v n r)) n ≡ true
   unfolding markOpen
-  mark-left = rw (reads n (omega arith), getD-open n r more) (holds-same w erased some)
+  mark-left = rw (reads n (omega arith), getD-open n r more) (holds-same (z .ws) erased some)
 
-  first-open : (j i : ℕ) → i ≤ n → n ≤ i + j → i + j < n + r → firstOpen w (spread w (markWords v n r)) j i ≡ n
+  first-open : (j i : ℕ) → i ≤ n → n ≤ i + j → i + j < n + r → firstOpen z (spread (z .ws) (markWords v n r)) j i ≡ n
   unfolding firstOpen pick
   first-open zero i lo hi up = omega arith
   first-open (suc j) i lo hi up = go (eq-or-lt-of-le lo) (λ h. first-open j (suc i) h (omega arith) (omega arith))
     where
-      go : (i ≡ n) ⊎ (i < n) → (i < n → firstOpen w (spread w (markWords v n r)) j (suc i) ≡ n)
-          → firstOpen w (spread w (markWords v n r)) (suc j) i ≡ n
+      go : (i ≡ n) ⊎ (i < n) → (i < n → firstOpen z (spread (z .ws) (markWords v n r)) j (suc i) ≡ n)
+          → firstOpen z (spread (z .ws) (markWords v n r)) (suc j) i ≡ n
       go (inl e) f = rw (e, mark-left)
       go (inr h) f = rw (done-mark i h) (f h)
 
-  most-marks : mostMarks w (spread w (markWords v n r)) ≡ 2 + (n + r) - 3
+  most-marks : mostMarks z (spread (z .ws) (markWords v n r)) ≡ 2 + (n + r) - 3
   unfolding mostMarks words
   most-marks =
-      ap (λ (k : ℕ). k / w - 3) (length-spread w (markWords v n r))
+      ap (λ (k : ℕ). k / z .ws - 3) (length-spread (z .ws) (markWords v n r))
       ∙ ap (λ (k : ℕ). k - 3) (mul-div-cancel (length (markWords v n r)) some ∙ length-marks v n r)
 
-  pub reads-swap : readState w (spread w (markWords v n r)) ≡ Swap
+  pub reads-swap : readState z (spread (z .ws) (markWords v n r)) ≡ Swap
   unfolding readState stateOf pick markWords
-  reads-swap = rw (word-spread w 0 (markWords v n r) (omega (arith, length-marks v n r)), throughout-same w (magic Swap))
+  reads-swap = rw (word-spread z 0 (markWords v n r) (omega (arith, length-marks v n r)), throughout-same (z .ws) (magic Swap))
 
   -- the Boot magic is not there yet
-  pub not-booted : throughout (magic Boot) (word w 0 (spread w (markWords v n r))) ≡ false
+  pub not-booted : throughout (magic Boot) (word z 0 (spread (z .ws) (markWords v n r))) ≡ false
   unfolding markWords
   not-booted =
-      ap (throughout (magic Boot)) (word-spread w 0 (markWords v n r) (omega (arith, length-marks v n r)))
-      ∙ throughout-other w (magic Boot) (magic Swap) some (λ e. boot-no-other .0 (sym e))
+      ap (throughout (magic Boot)) (word-spread z 0 (markWords v n r) (omega (arith, length-marks v n r)))
+      ∙ throughout-other (z .ws) (magic Boot) (magic Swap) some (λ e. boot-no-other .0 (sym e))
 
-  reads-valid : word w 1 (spread w (markWords v n r)) ≡ replicate w v
+  reads-valid : word z 1 (spread (z .ws) (markWords v n r)) ≡ replicate (z .ws) v
   unfolding markWords
-  reads-valid = word-spread w 1 (markWords v n r) (omega (arith, length-marks v n r))
+  reads-valid = word-spread z 1 (markWords v n r) (omega (arith, length-marks v n r))
 
-  pub done-marks : marksDone w (spread w (markWords v n r)) ≡ n
+  pub done-marks : marksDone z (spread (z .ws) (markWords v n r)) ≡ n
   unfolding marksDone
   done-marks = rw most-marks (first-open (2 + (n + r) - 3) 0 (omega arith) (omega arith) (omega arith))
 
-module _ (w : ℕ) (some : 0 < w) (n r : ℕ) (more : 0 < r) where
+module _ (z : StateSizes) (some : 0 < z .ws) (n r : ℕ) (more : 0 < r) where
   -- the validity word erased, and written over
-  pub marks-valid : valid w (spread w (markWords erased n r)) ≡ true
+  pub marks-valid : valid z (spread (z .ws) (markWords erased n r)) ≡ true
   unfolding valid
-  marks-valid = ap (throughout erased) (reads-valid w some erased n r more) ∙ throughout-same w erased
+  marks-valid = ap (throughout erased) (reads-valid z some erased n r more) ∙ throughout-same (z .ws) erased
 
-  pub marks-void : valid w (spread w (markWords marked n r)) ≡ false
+  pub marks-void : valid z (spread (z .ws) (markWords marked n r)) ≡ false
   unfolding valid
   marks-void =
-      ap (throughout erased) (reads-valid w some marked n r more)
-      ∙ throughout-other w erased marked some marked-not-erased
+      ap (throughout erased) (reads-valid z some marked n r more)
+      ∙ throughout-other (z .ws) erased marked some marked-not-erased
 
-  pub progress-marks : progress w (spread w (markWords erased n r)) ≡ n
-  progress-marks = progress-valid w (spread w (markWords erased n r)) marks-valid ∙ done-marks w some erased n r more
+  pub progress-marks : progress z (spread (z .ws) (markWords erased n r)) ≡ n
+  progress-marks = progress-valid z (spread (z .ws) (markWords erased n r)) marks-valid ∙ done-marks z some erased n r more
 
-  pub progress-void : progress w (spread w (markWords marked n r)) ≡ 2 + (n + r) - 3
-  progress-void = progress-invalid w (spread w (markWords marked n r)) marks-void ∙ most-marks w some marked n r more
+  pub progress-void : progress z (spread (z .ws) (markWords marked n r)) ≡ 2 + (n + r) - 3
+  progress-void = progress-invalid z (spread (z .ws) (markWords marked n r)) marks-void ∙ most-marks z some marked n r more
 
 -- a confirmation is pending with a swap's marks and a revert's not all done, and void; not while they count, nor with all done
-module _ (w N : ℕ) (st : List ℕ) where
-  pub confirming-counted : valid w st ≡ true → confirming w N st ≡ false
+module _ (z : StateSizes) (N : ℕ) (st : List ℕ) where
+  pub confirming-counted : valid z st ≡ true → confirming z N st ≡ false
   unfolding confirming pick
   confirming-counted e = rw e
 
-  pub confirming-reverted : 4 * N ≤ marksDone w st → confirming w N st ≡ false
+  pub confirming-reverted : 4 * N ≤ marksDone z st → confirming z N st ≡ false
   unfolding confirming pick
-  confirming-reverted h = rw (le-ltb (marksDone w st) (4 * N) h) (go (valid w st) (ltb (marksDone w st) (2 * N)))
+  confirming-reverted h = rw (le-ltb (marksDone z st) (4 * N) h) (go (valid z st) (ltb (marksDone z st) (2 * N)))
     where
       go : (a b : Bool) → pick a false (pick b false false) ≡ false
       go true b = refl
       go false true = refl
       go false false = refl
 
-  pub confirming-swapped : valid w st ≡ false → 2 * N ≤ marksDone w st → marksDone w st < 4 * N → confirming w N st ≡ true
+  pub confirming-swapped : valid z st ≡ false → 2 * N ≤ marksDone z st → marksDone z st < 4 * N → confirming z N st ≡ true
   unfolding confirming pick
-  confirming-swapped e h l = rw (e, le-ltb (marksDone w st) (2 * N) h, lt-ltb (marksDone w st) (4 * N) l)
+  confirming-swapped e h l = rw (e, le-ltb (marksDone z st) (2 * N) h, lt-ltb (marksDone z st) (4 * N) l)
 
 replicate-snoc : (n x : ℕ) (zs : List ℕ) → replicate n x ++ (x ∷ zs) ≡ x ∷ (replicate n x ++ zs)
 replicate-snoc zero x zs = refl
@@ -167,51 +168,51 @@ void-written w v n r =
 
 -- ---- the areas of specs/Power, of 2 + t words
 
-pub fresh-marks : (w t : ℕ) → magicArea w Swap ((2 + t) * w) ≡ spread w (markWords erased 0 (t - 0))
+pub fresh-marks : (z : StateSizes) (t : ℕ) → magicArea z Swap ((2 + t) * z .ws) ≡ spread (z .ws) (markWords erased 0 (t - 0))
 unfolding magicArea spread markWords
-fresh-marks w t =
-    let e : (2 + t) * w - w ≡ w + t * w = omega arith in
-    let z : t ≡ t - 0 = omega arith in
-    ap (λ (r : List ℕ). replicate w (magic Swap) ++ r)
-    (ap (λ (n : ℕ). replicate n erased) e ∙ sym (replicate-append-replicate w (t * w) erased)
-    ∙ ap (λ (r : List ℕ). replicate w erased ++ r)
-    (sym (spread-replicate w t erased) ∙ ap (λ (n : ℕ). spread w (replicate n erased)) z))
+fresh-marks z t =
+    let e : (2 + t) * z .ws - z .ws ≡ z .ws + t * (z .ws) = omega arith in
+    let o : t ≡ t - 0 = omega arith in
+    ap (λ (r : List ℕ). replicate (z .ws) (magic Swap) ++ r)
+    (ap (λ (n : ℕ). replicate n erased) e ∙ sym (replicate-append-replicate (z .ws) (t * z .ws) erased)
+    ∙ ap (λ (r : List ℕ). replicate (z .ws) erased ++ r)
+    (sym (spread-replicate (z .ws) t erased) ∙ ap (λ (n : ℕ). spread (z .ws) (replicate n erased)) o))
 
-pub swapped-marks : (w N t : ℕ) → 2 * N ≤ t → spread w (markWords erased (2 * N) (t - 2 * N)) ≡ swapMarks w N ((2 + t) * w)
+pub swapped-marks : (z : StateSizes) (N t : ℕ) → 2 * N ≤ t → spread (z .ws) (markWords erased (2 * N) (t - 2 * N)) ≡ swapMarks z N ((2 + t) * z .ws)
 unfolding swapMarks spread markWords
-swapped-marks w N t h =
+swapped-marks z N t h =
     let u : ℕ = t - 2 * N in
     let a : t ≡ 2 * N + u = omega arith in
-    let b : t * w ≡ (2 * N + u) * w = ap (λ (z : ℕ). z * w) a in
-    let e : u * w ≡ (2 + t) * w - (2 + 2 * N) * w = omega (arith, b) in
-    ap (λ (r : List ℕ). replicate w (magic Swap) ++ (replicate w erased ++ r))
-    (spread-append w (replicate (2 * N) marked) (replicate u erased)
-    ∙ ap₂ (λ (l r : List ℕ). l ++ r) (spread-replicate w (2 * N) marked)
-    (spread-replicate w u erased ∙ ap (λ (n : ℕ). replicate n erased) e))
+    let b : t * z .ws ≡ (2 * N + u) * (z .ws) = ap (λ (o : ℕ). o * z .ws) a in
+    let e : u * z .ws ≡ (2 + t) * z .ws - (2 + 2 * N) * (z .ws) = omega (arith, b) in
+    ap (λ (r : List ℕ). replicate (z .ws) (magic Swap) ++ (replicate (z .ws) erased ++ r))
+    (spread-append (z .ws) (replicate (2 * N) marked) (replicate u erased)
+    ∙ ap₂ (λ (l r : List ℕ). l ++ r) (spread-replicate (z .ws) (2 * N) marked)
+    (spread-replicate (z .ws) u erased ∙ ap (λ (n : ℕ). replicate n erased) e))
 
 -- n marks done, and invalid
-pub void-marks : (w n t : ℕ) → n ≤ t → spread w (markWords marked n (t - n)) ≡ voidMarks w n ((2 + t) * w)
+pub void-marks : (z : StateSizes) (n t : ℕ) → n ≤ t → spread (z .ws) (markWords marked n (t - n)) ≡ voidMarks z n ((2 + t) * z .ws)
 unfolding voidMarks spread markWords
-void-marks w n t h =
+void-marks z n t h =
     let u : ℕ = t - n in
     let a : t ≡ n + u = omega arith in
-    let b : t * w ≡ (n + u) * w = ap (λ (z : ℕ). z * w) a in
-    let e : u * w ≡ (2 + t) * w - (2 + n) * w = omega (arith, b) in
-    let m : w + n * w ≡ (1 + n) * w = omega arith in
-    ap (λ (r : List ℕ). replicate w (magic Swap) ++ (replicate w marked ++ r))
-    (spread-append w (replicate n marked) (replicate u erased)
-    ∙ ap₂ (λ (l r : List ℕ). l ++ r) (spread-replicate w n marked)
-    (spread-replicate w u erased ∙ ap (λ (i : ℕ). replicate i erased) e))
-    ∙ ap (λ (r : List ℕ). replicate w (magic Swap) ++ r)
-    (sym (append-assoc (replicate w marked) (replicate (n * w) marked) (replicate ((2 + t) * w - (2 + n) * w) erased))
-    ∙ ap (λ (r : List ℕ). r ++ replicate ((2 + t) * w - (2 + n) * w) erased)
-    (replicate-append-replicate w (n * w) marked ∙ ap (λ (i : ℕ). replicate i marked) m))
+    let b : t * z .ws ≡ (n + u) * (z .ws) = ap (λ (o : ℕ). o * z .ws) a in
+    let e : u * z .ws ≡ (2 + t) * z .ws - (2 + n) * (z .ws) = omega (arith, b) in
+    let m : (z .ws) + n * z .ws ≡ (1 + n) * (z .ws) = omega arith in
+    ap (λ (r : List ℕ). replicate (z .ws) (magic Swap) ++ (replicate (z .ws) marked ++ r))
+    (spread-append (z .ws) (replicate n marked) (replicate u erased)
+    ∙ ap₂ (λ (l r : List ℕ). l ++ r) (spread-replicate (z .ws) n marked)
+    (spread-replicate (z .ws) u erased ∙ ap (λ (i : ℕ). replicate i erased) e))
+    ∙ ap (λ (r : List ℕ). replicate (z .ws) (magic Swap) ++ r)
+    (sym (append-assoc (replicate (z .ws) marked) (replicate (n * z .ws) marked) (replicate ((2 + t) * z .ws - (2 + n) * z .ws) erased))
+    ∙ ap (λ (r : List ℕ). r ++ replicate ((2 + t) * z .ws - (2 + n) * z .ws) erased)
+    (replicate-append-replicate (z .ws) (n * z .ws) marked ∙ ap (λ (i : ℕ). replicate i marked) m))
 
-pub reverted-marks : (w N t : ℕ) → 4 * N ≤ t → spread w (markWords marked (4 * N) (t - 4 * N)) ≡ revertMarks w N ((2 + t) * w)
+pub reverted-marks : (z : StateSizes) (N t : ℕ) → 4 * N ≤ t → spread (z .ws) (markWords marked (4 * N) (t - 4 * N)) ≡ revertMarks z N ((2 + t) * z .ws)
 unfolding revertMarks voidMarks
-reverted-marks w N t h = void-marks w (4 * N) t h
+reverted-marks z N t h = void-marks z (4 * N) t h
 
-pub reverted-size : (w N t : ℕ) → 4 * N ≤ t → length (revertMarks w N ((2 + t) * w)) ≡ (2 + t) * w
-reverted-size w N t h =
+pub reverted-size : (z : StateSizes) (N t : ℕ) → 4 * N ≤ t → length (revertMarks z N ((2 + t) * z .ws)) ≡ (2 + t) * z .ws
+reverted-size z N t h =
     let e : length (markWords marked (4 * N) (t - 4 * N)) ≡ 2 + t = omega (arith, length-marks marked (4 * N) (t - 4 * N)) in
-    ap length (sym (reverted-marks w N t h)) ∙ length-spread w (markWords marked (4 * N) (t - 4 * N)) ∙ ap (λ (z : ℕ). z * w) e
+    ap length (sym (reverted-marks z N t h)) ∙ length-spread (z .ws) (markWords marked (4 * N) (t - 4 * N)) ∙ ap (λ (o : ℕ). o * z .ws) e

@@ -4,7 +4,7 @@ use mathlib.Core.List.{[], _∷_, _++_}
 use Rattle.state.specs.Choice.{pick}
 use Rattle.state.specs.Magic.{erased, marked, magic, throughout, holds, stateOf}
 use Rattle.geometry.specs.Geometry.{page, pages, words}
-use Rattle.geometry.specs.Refusals.{any, rowFrom, lowest, mostNumber, mostLength, badNumber, tooLong, uneven, outside, unevenPage, unevenAreas, badState, bootWords, otherWords, bootNumbers, bootRefusal, stateRefusal}
+use Rattle.geometry.specs.Refusals.{any, number, firstRow, mostNumber, mostLength, badNumber, tooLong, uneven, outside, unevenPage, unevenAreas, badState, bootWords, otherWords, stateNumbers, bootNumbers, bootRefusal, stateRefusal}
 use Rattle.mem_flash.specs.Flash.{programmed, blank, program, erasedAt, writtenAt, change, apply, applyAll, after, unitOps, eraseOps}
 use Rattle.mem_flash.specs.Run.{flash}
 use Rattle.rules.specs.Power.{magicArea, swapMarks, swapTable, pageAt, withPage, revertImages, reverted}
@@ -16,7 +16,11 @@ use Rattle.rules.specs.FirmwareState.{setMagicOps, mark}
 use Rattle.rules.specs.Sheet.{budget, call, walk, table, computed, told, Starred, done, cut, refused, ff, zeros, fresh, case, sizes, pages as filled}
 
 pub starred : Starred
-unfolding pick erased marked magic throughout holds stateOf page pages words any rowFrom lowest mostNumber mostLength badNumber tooLong uneven outside unevenPage unevenAreas badState bootWords otherWords bootNumbers bootRefusal stateRefusal programmed blank program erasedAt writtenAt change apply applyAll after unitOps eraseOps word readState valid markOpen mostMarks firstOpen marksDone progress markOp invalidateOp magicOp toDfu toActive swapFrom revertFrom swapSteps revertSteps sourceOf unitOf chunkOps fillOps copyOps onceOps copiesOps pageCount swapOps revertOps report left renewOps finishOps swapOrRevertOps confirming bootOpsIn bootOps prepareBoot setMagicOps mark budget call walk table computed told done cut refused ff zeros fresh case sizes filled
+unfolding pick erased marked magic throughout holds stateOf page pages words
+    any number firstRow mostNumber mostLength badNumber tooLong uneven outside unevenPage unevenAreas badState bootWords otherWords stateNumbers bootNumbers bootRefusal stateRefusal
+    programmed blank program erasedAt writtenAt change apply applyAll after unitOps eraseOps word readState valid markOpen mostMarks firstOpen marksDone progress markOp invalidateOp magicOp
+    toDfu toActive swapFrom revertFrom swapSteps revertSteps sourceOf unitOf chunkOps fillOps copyOps onceOps copiesOps pageCount swapOps revertOps
+    report left renewOps finishOps swapOrRevertOps confirming bootOpsIn bootOps prepareBoot setMagicOps mark budget call walk table computed told done cut refused ff zeros fresh case sizes filled
 starred = refl
 
 -- the tables of 01's section on power, which run no step, give the flash of case a and of case f

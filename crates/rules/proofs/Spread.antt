@@ -13,6 +13,7 @@ use Rattle.state.specs.declared.State.{State}
 use Rattle.state.specs.declared.State.the-variants.{Boot, Swap, Revert, DfuDetach}
 use Rattle.state.specs.Choice.{pick}
 use Rattle.state.specs.Magic.{erased, magic, throughout, holds, stateOf}
+use Rattle.geometry.specs.declared.StateSizes.{StateSizes}
 use Rattle.mem_flash.specs.Flash.{programmed, blank, program, writtenAt}
 use Rattle.mem_flash.proofs.Bytes.{program-none}
 use Rattle.mem_flash.proofs.Stretches.{blank-is}
@@ -52,13 +53,13 @@ skip w k x zs =
     let e : suc k * w ≡ length (replicate w x) + k * w = omega (arith, length-replicate w x) in
     ap (λ (n : ℕ). drop n (replicate w x ++ zs)) e ∙ drop-append-add (replicate w x) zs (k * w)
 
-pub word-spread : (w k : ℕ) (bs : List ℕ) → k < length bs → word w k (spread w bs) ≡ replicate w (getD bs k 0)
+pub word-spread : (z : StateSizes) (k : ℕ) (bs : List ℕ) → k < length bs → word z k (spread (z .ws) bs) ≡ replicate (z .ws) (getD bs k 0)
 unfolding spread word
-word-spread w k [] h = absurd (not-suc-le-zero h)
-word-spread w zero (x ∷ bs) h =
-    ap (λ (n : ℕ). take w (drop n (replicate w x ++ spread w bs))) (zero-mul w)
-    ∙ take-at (replicate w x) (spread w bs) w (length-replicate w x)
-word-spread w (suc k) (x ∷ bs) h = ap (take w) (skip w k x (spread w bs)) ∙ word-spread w k bs (le-of-suc-le-suc h)
+word-spread z k [] h = absurd (not-suc-le-zero h)
+word-spread z zero (x ∷ bs) h =
+    ap (λ (n : ℕ). take (z .ws) (drop n (replicate (z .ws) x ++ spread (z .ws) bs))) (zero-mul (z .ws))
+    ∙ take-at (replicate (z .ws) x) (spread (z .ws) bs) (z .ws) (length-replicate (z .ws) x)
+word-spread z (suc k) (x ∷ bs) h = ap (take (z .ws)) (skip (z .ws) k x (spread (z .ws) bs)) ∙ word-spread z k bs (le-of-suc-le-suc h)
 
 -- a word of one byte programmed onto a word of one byte
 program-word : (n x y : ℕ) (zs : List ℕ) → program (replicate n x ++ zs) (replicate n y) ≡ replicate n (programmed x y) ++ zs
@@ -144,26 +145,26 @@ boot-reads w h =
     )
 
 -- so does a state area that begins with such a word
-pub area-reads : (s : State) (w n : ℕ) → stateOf (replicate w (magic s)) ≡ s → readState w (magicArea w s n) ≡ s
+pub area-reads : (s : State) (z : StateSizes) (n : ℕ) → stateOf (replicate (z .ws) (magic s)) ≡ s → readState z (magicArea z s n) ≡ s
 unfolding readState word magicArea
-area-reads s w n e =
-    ap (λ (i : ℕ). stateOf (take w (drop i (replicate w (magic s) ++ replicate (n - w) erased)))) (zero-mul w)
-    ∙ ap stateOf (take-at (replicate w (magic s)) (replicate (n - w) erased) w (length-replicate w (magic s))) ∙ e
+area-reads s z n e =
+    ap (λ (i : ℕ). stateOf (take (z .ws) (drop i (replicate (z .ws) (magic s) ++ replicate (n - z .ws) erased)))) (zero-mul (z .ws))
+    ∙ ap stateOf (take-at (replicate (z .ws) (magic s)) (replicate (n - z .ws) erased) (z .ws) (length-replicate (z .ws) (magic s))) ∙ e
 
 -- a state area whose first word is erased reads Boot
-pub blank-boot : (w n : ℕ) (st : List ℕ) → 0 < w → w ≤ n → n ≤ length st → readState w (blank n st) ≡ Boot
+pub blank-boot : (z : StateSizes) (n : ℕ) (st : List ℕ) → 0 < (z .ws) → (z .ws) ≤ n → n ≤ length st → readState z (blank n st) ≡ Boot
 unfolding readState word
-blank-boot w n st some more fit =
-    let r : ℕ = n - w in
-    let e : n ≡ w + r = omega arith in
+blank-boot z n st some more fit =
+    let r : ℕ = n - (z .ws) in
+    let e : n ≡ z .ws + r = omega arith in
     ap stateOf
-    (ap₂ (λ (i : ℕ) (xs : List ℕ). take w (drop i xs)) (zero-mul w)
+    (ap₂ (λ (i : ℕ) (xs : List ℕ). take (z .ws) (drop i xs)) (zero-mul (z .ws))
     (blank-is n st fit
     ∙ ap (λ (l : List ℕ). l ++ drop n st)
-    (ap (λ (z : ℕ). replicate z erased) e ∙ sym (replicate-append-replicate w r erased))
-    ∙ append-assoc (replicate w erased) (replicate r erased) (drop n st))
-    ∙ take-at (replicate w erased) (replicate r erased ++ drop n st) w (length-replicate w erased))
-    ∙ erased-reads-boot w some
+    (ap (λ (o : ℕ). replicate o erased) e ∙ sym (replicate-append-replicate (z .ws) r erased))
+    ∙ append-assoc (replicate (z .ws) erased) (replicate r erased) (drop n st))
+    ∙ take-at (replicate (z .ws) erased) (replicate r erased ++ drop n st) (z .ws) (length-replicate (z .ws) erased))
+    ∙ erased-reads-boot (z .ws) some
 
 -- every magic is a byte
 pub magic-byte : (s : State) → magic s < 256

@@ -11,6 +11,7 @@ use lib.ListN.{take, drop}
 use borrow.Author.Tests.{eq-eqb}
 use Rattle.state.specs.Choice.{pick}
 use Rattle.state.specs.Magic.{erased, holds}
+use Rattle.geometry.specs.declared.StateSizes.{StateSizes}
 use Rattle.rules.specs.StateArea.{word, valid, markOpen, mostMarks, firstOpen, marksDone, progress}
 
 -- ---- a mark
@@ -26,42 +27,42 @@ holds-within v [] ys = rw (eq-eqb v v refl)
 holds-within v (x ∷ xs) ys = rw (holds-within v xs ys) (pick-true (eqb x v))
 
 -- one erased byte, wherever it stands, keeps a mark open: 00 FF 00 00 is not done
-pub mark-open : (ws i : ℕ) (st xs ys : List ℕ) → word ws (2 + i) st ≡ xs ++ (erased ∷ ys) → markOpen ws st i ≡ true
+pub mark-open : (z : StateSizes) (i : ℕ) (st xs ys : List ℕ) → word z (2 + i) st ≡ xs ++ (erased ∷ ys) → markOpen z st i ≡ true
 unfolding markOpen
-mark-open ws i st xs ys e = ap (holds erased) e ∙ holds-within erased xs ys
+mark-open z i st xs ys e = ap (holds erased) e ∙ holds-within erased xs ys
 
 -- a word as a part of the area that starts at its offset
-pub word-part : (ws i at : ℕ) (st : List ℕ) → at ≡ i * ws → take (at + ws - at) (drop at st) ≡ word ws i st
+pub word-part : (z : StateSizes) (i at : ℕ) (st : List ℕ) → at ≡ i * z .ws → take (at + z .ws - at) (drop at st) ≡ word z i st
 unfolding word
-word-part ws i at st e =
-    let n : at + ws - at ≡ ws = omega arith in
+word-part z i at st e =
+    let n : at + z .ws - at ≡ z .ws = omega arith in
     rw (n, e)
 
 -- ---- the progress
 
-pub progress-invalid : (ws : ℕ) (st : List ℕ) → valid ws st ≡ false → progress ws st ≡ mostMarks ws st
+pub progress-invalid : (z : StateSizes) (st : List ℕ) → valid z st ≡ false → progress z st ≡ mostMarks z st
 unfolding progress pick
-progress-invalid ws st e = rw e
+progress-invalid z st e = rw e
 
-pub progress-valid : (ws : ℕ) (st : List ℕ) → valid ws st ≡ true → progress ws st ≡ marksDone ws st
+pub progress-valid : (z : StateSizes) (st : List ℕ) → valid z st ≡ true → progress z st ≡ marksDone z st
 unfolding progress pick
-progress-valid ws st e = rw e
+progress-valid z st e = rw e
 
-module _ (ws most i : ℕ) (st : List ℕ) (h : i < most) where
-  pub open-here : markOpen ws st i ≡ true → firstOpen ws st (most - i) i ≡ i
+module _ (z : StateSizes) (most i : ℕ) (st : List ℕ) (h : i < most) where
+  pub open-here : markOpen z st i ≡ true → firstOpen z st (most - i) i ≡ i
   unfolding firstOpen pick
   open-here e =
       let s : most - i ≡ suc (most - (i + 1)) = omega arith in
       rw (s, e)
 
-  pub open-turn : markOpen ws st i ≡ false → firstOpen ws st (most - (i + 1)) (i + 1) ≡ firstOpen ws st (most - i) i
+  pub open-turn : markOpen z st i ≡ false → firstOpen z st (most - (i + 1)) (i + 1) ≡ firstOpen z st (most - i) i
   unfolding firstOpen pick
   open-turn e =
       let s : most - i ≡ suc (most - (i + 1)) = omega arith in
       sym (rw (s, e) (simp add-one))
 
-pub open-end : (ws most i : ℕ) (st : List ℕ) → most ≤ i → firstOpen ws st (most - i) i ≡ i
+pub open-end : (z : StateSizes) (most i : ℕ) (st : List ℕ) → most ≤ i → firstOpen z st (most - i) i ≡ i
 unfolding firstOpen
-open-end ws most i st h =
+open-end z most i st h =
     let s : most - i ≡ 0 = omega arith in
     rw s

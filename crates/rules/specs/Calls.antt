@@ -9,7 +9,7 @@ use lib.ListN.{length}
 use Rattle.state.specs.declared.State.{State}
 use Rattle.state.specs.Choice.{pick}
 use Rattle.geometry.specs.Refusals.{number}
-use Rattle.mem_flash.specs.Flash.{Flash, Op, after}
+use Rattle.mem_flash.specs.Flash.{Flash, Op, after, Supply}
 use Rattle.rules.specs.declared.Answer.{Answer}
 use Rattle.rules.specs.declared.Answer.the-variants.{Found, Done, Refused, Cut}
 
@@ -33,7 +33,7 @@ pub record Call : Type 0 where
   pub ops : List Op
 
 -- with a budget of k: the refusal; else done with all operations; else the cut after k
-unfoldable pub report : Call → ℕ → Report
+unfoldable pub report : Call → Supply → Report
 report c k =
     pick (eqb (c .refusal) 0)
     (pick (leb (length (c .ops)) k)
@@ -42,10 +42,10 @@ report c k =
     (record { number = c .refusal; state = none; count = 0 })
 
 -- a refusal changes nothing; else the first k operations are done
-unfoldable pub left : Call → ℕ → Flash → Flash
+unfoldable pub left : Call → Supply → Flash → Flash
 left c k f = pick (eqb (c .refusal) 0) (after k (c .ops) f) f
 
 -- the answer r and the flash f′ are those of the call c on the flash f with a budget of k
-pub record Did (c : Call) (k : ℕ) (f f′ : Flash) (r : Answer) : Type 0 where
+pub record Did (c : Call) (k : Supply) (f f′ : Flash) (r : Answer) : Type 0 where
   pub answer : reported r ≡ report c k
   pub flash : f′ ≡ left c k f

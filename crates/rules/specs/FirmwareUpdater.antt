@@ -9,6 +9,7 @@ use Rattle.state.specs.declared.State.{State}
 use Rattle.state.specs.declared.State.the-variants.{Boot, Swap, Revert, DfuDetach}
 use Rattle.state.specs.Choice.{pick}
 use Rattle.state.specs.Magic.{magic}
+use Rattle.geometry.specs.declared.StateSizes.{StateSizes}
 use Rattle.geometry.specs.declared.Sizes.{Sizes}
 use Rattle.geometry.specs.Refusals.{any, uneven, updaterRefusal}
 use Rattle.mem_flash.specs.Flash.{dfu, Flash, Op, erase, write, eraseOps}
@@ -70,8 +71,8 @@ isSwap Revert = false
 isSwap DfuDetach = false
 
 -- row 5, in mark_dfu, write_firmware and prepare_update
-unfoldable pub pending : ℕ → List ℕ → Bool
-pending ws st = isSwap (readState ws st)
+unfoldable pub pending : StateSizes → List ℕ → Bool
+pending z st = isSwap (readState z st)
 
 -- row 6, read_dfu: n bytes at an offset
 unfoldable pub pastEnd : ℕ → ℕ → ℕ → Bool
@@ -94,17 +95,17 @@ updaterCall z f swap range s ops =
     }
 
 unfoldable pub updaterGetState : Sizes → Flash → Call
-updaterGetState z f = updaterCall z f false false (some (readState (z .ws) (f .state))) []
+updaterGetState z f = updaterCall z f false false (some (readState (z .state) (f .state))) []
 
 -- mark_updated and mark_booted look at no row 5; mark_dfu does
 unfoldable pub updaterMark : State → Bool → Sizes → Flash → Call
-updaterMark s swap z f = updaterCall z f swap false none (setMagicOps (z .es) (z .ws) (magic s) (f .state))
+updaterMark s swap z f = updaterCall z f swap false none (setMagicOps (z .state) (magic s) (f .state))
 
 unfoldable pub updaterMarkUpdated : Sizes → Flash → Call
 updaterMarkUpdated z f = updaterMark Swap false z f
 
 unfoldable pub updaterMarkDfu : Sizes → Flash → Call
-updaterMarkDfu z f = updaterMark DfuDetach (pending (z .ws) (f .state)) z f
+updaterMarkDfu z f = updaterMark DfuDetach (pending (z .state) (f .state)) z f
 
 unfoldable pub updaterMarkBooted : Sizes → Flash → Call
 updaterMarkBooted z f = updaterMark Boot false z f
@@ -123,7 +124,7 @@ writeFirmware z m offset bytes f =
     updaterCall
     z
     f
-    (pending (z .ws) (f .state))
+    (pending (z .state) (f .state))
     (badRange (z .wd) (length (f .dfu)) offset (length bytes))
     none
     (piecesOps (z .ed) m (pieces (z .ed) offset bytes))
@@ -138,4 +139,4 @@ memory k z m offset bytes f =
 -- prepare_update: all of DFU erased; the memory stays as it is
 unfoldable pub prepareUpdate : Sizes → Flash → Call
 prepareUpdate z f =
-    updaterCall z f (pending (z .ws) (f .state)) false none (eraseOps (z .ed) dfu 0 (length (f .dfu)))
+    updaterCall z f (pending (z .state) (f .state)) false none (eraseOps (z .ed) dfu 0 (length (f .dfu)))

@@ -9,6 +9,7 @@ use Rattle.state.specs.declared.State.{State}
 use Rattle.state.specs.declared.State.the-variants.{Swap, Revert}
 use Rattle.state.specs.Choice.{pick}
 use Rattle.state.specs.Magic.{erased, marked, magic}
+use Rattle.geometry.specs.declared.StateSizes.{StateSizes}
 use Rattle.geometry.specs.declared.Geometry.{Geometry}
 use Rattle.geometry.specs.Geometry.{page}
 use Rattle.mem_flash.specs.Flash.{Area, active, dfu, Flash, blank}
@@ -16,18 +17,19 @@ use Rattle.rules.specs.StateArea.{progress}
 use Rattle.rules.specs.Steps.{pageCount, unitOf}
 
 -- a state area of n bytes: a magic in every byte of word 0, every other byte erased
-unfoldable pub magicArea : ℕ → State → ℕ → List ℕ
-magicArea ws s n = replicate ws (magic s) ++ replicate (n - ws) erased
+unfoldable pub magicArea : StateSizes → State → ℕ → List ℕ
+magicArea z s n = replicate (z .ws) (magic s) ++ replicate (n - z .ws) erased
 
 -- freshly marked for an update
 unfoldable pub Fresh : Geometry → Flash → Type 0
-Fresh g f = f .state ≡ magicArea (g .ws) Swap (length (f .state))
+Fresh g f = f .state ≡ magicArea (g .state) Swap (length (f .state))
 
 -- the state area of n bytes after the swap of `count` pages: the swap's marks done, the rest as freshly marked
-unfoldable pub swapMarks : ℕ → ℕ → ℕ → List ℕ
-swapMarks ws count n =
-    replicate ws (magic Swap)
-    ++ (replicate ws erased ++ (replicate (2 * count * ws) marked ++ replicate (n - (2 + 2 * count) * ws) erased))
+unfoldable pub swapMarks : StateSizes → ℕ → ℕ → List ℕ
+swapMarks z count n =
+    replicate (z .ws) (magic Swap)
+    ++ (replicate (z .ws) erased
+    ++ (replicate (2 * count * z .ws) marked ++ replicate (n - (2 + 2 * count) * z .ws) erased))
 
 -- the swap table: active page k holds the old DFU page k, DFU page k + 1 the old active page k, the rest of DFU is as it was
 unfoldable pub swapTable : Geometry → Flash → Flash
@@ -35,7 +37,7 @@ swapTable g f =
     record {
       active = take (length (f .active)) (f .dfu);
       dfu = take (page g) (f .dfu) ++ (f .active ++ drop (page g + length (f .active)) (f .dfu));
-      state = swapMarks (g .ws) (pageCount g f) (length (f .state));
+      state = swapMarks (g .state) (pageCount g f) (length (f .state));
     }
 
 -- page k of an image of pages of p bytes, and the image with other bytes there
@@ -57,28 +59,29 @@ revertImages g st f =
 
 -- the state area after the revert: Revert's magic
 unfoldable pub reverted : Geometry → Flash → Flash
-reverted g f = revertImages g (magicArea (g .ws) Revert (length (f .state))) f
+reverted g f = revertImages g (magicArea (g .state) Revert (length (f .state))) f
 
 -- or all erased, where a cut fell after the state's erase
 unfoldable pub revertedErased : Geometry → Flash → Flash
 revertedErased g f = revertImages g (replicate (length (f .state)) erased) f
 
 -- a state area of n bytes with m marks done whose progress does not count
-unfoldable pub voidMarks : ℕ → ℕ → ℕ → List ℕ
-voidMarks ws m n = replicate ws (magic Swap) ++ (replicate ((1 + m) * ws) marked ++ replicate (n - (2 + m) * ws) erased)
+unfoldable pub voidMarks : StateSizes → ℕ → ℕ → List ℕ
+voidMarks z m n =
+    replicate (z .ws) (magic Swap) ++ (replicate ((1 + m) * z .ws) marked ++ replicate (n - (2 + m) * z .ws) erased)
 
 -- what the revert of `count` pages begins to erase: invalid, every mark of swap and revert done
-unfoldable pub revertMarks : ℕ → ℕ → ℕ → List ℕ
-revertMarks ws count n = voidMarks ws (4 * count) n
+unfoldable pub revertMarks : StateSizes → ℕ → ℕ → List ℕ
+revertMarks z count n = voidMarks z (4 * count) n
 
 -- or, where a cut fell inside the state's erase, its first units erased and the rest as they were
 unfoldable pub revertedPart : Geometry → ℕ → Flash → Flash
 revertedPart g units f =
-    revertImages g (blank (units * g .es) (revertMarks (g .ws) (pageCount g f) (length (f .state)))) f
+    revertImages g (blank (units * g .state .es) (revertMarks (g .state) (pageCount g f) (length (f .state)))) f
 
 -- the erase units of the state area
 unfoldable pub stateUnits : Geometry → Flash → ℕ
-stateUnits g f = length (f .state) / g .es
+stateUnits g f = length (f .state) / g .state .es
 
 -- what a run needs to gain a step: the units of the target's page, its chunks and the mark
 unfoldable pub stepCost : Geometry → Area → ℕ
@@ -94,4 +97,4 @@ stepTo i = pick (eqb (i % 2) 0) dfu active
 
 -- what the next step of a flash costs
 unfoldable pub nextCost : Geometry → Flash → ℕ
-nextCost g f = stepCost g (stepTo (progress (g .ws) (f .state)))
+nextCost g f = stepCost g (stepTo (progress (g .state) (f .state)))

@@ -38,7 +38,7 @@ budget (markBooted k) = k
 
 unfoldable pub call : Geometry → Run → Flash → Call
 call g (boot k) f = prepareBoot g f
-call g (markBooted k) f = mark Boot (g .es) (g .ws) (f .state)
+call g (markBooted k) f = mark Boot (g .state) (f .state)
 
 unfoldable pub walk : Geometry → List Run → Report → Flash → Result
 walk g [] r f = record { answer = r; left = f }
@@ -62,7 +62,7 @@ pages (x ∷ xs) = x ∷ x ∷ x ∷ x ∷ pages xs
 
 -- erase 4, 4, es; write 2, 2, 1; b = 2
 unfoldable pub sizes : ℕ → Geometry
-sizes es = record { ea = 4; wa = 2; ed = 4; wd = 2; es = es; ws = 1; b = 2 }
+sizes es = record { ea = 4; wa = 2; ed = 4; wd = 2; state = record { es = es; ws = 1 }; b = 2 }
 
 -- FF n times
 unfoldable pub ff : ℕ → List ℕ

@@ -49,7 +49,7 @@ sourceOf state f = f .state
 unfoldable pub unitOf : Geometry → Area → ℕ
 unitOf g active = g .ea
 unitOf g dfu = g .ed
-unitOf g state = g .es
+unitOf g state = g .state .es
 
 -- n chunks of b bytes each, in rising order
 unfoldable pub chunkOps : ℕ → Area → ℕ → ℕ → ℕ → List ℕ → List Op
@@ -71,11 +71,11 @@ copyOps g c f =
     (c .source * page g)
     (sourceOf (c .to) f)
     (c .to)
-    ++ (markOp (g .ws) (c .mark) ∷ [])
+    ++ (markOp (g .state) (c .mark) ∷ [])
 
 -- a step runs only if the progress, read afresh, is at most its number
 unfoldable pub onceOps : Geometry → Copy → Flash → List Op
-onceOps g c f = pick (leb (progress (g .ws) (f .state)) (c .mark)) (copyOps g c f) []
+onceOps g c f = pick (leb (progress (g .state) (f .state)) (c .mark)) (copyOps g c f) []
 
 -- a table of steps, each on the flash that those before it left
 unfoldable pub copiesOps : Geometry → List Copy → Flash → List Op

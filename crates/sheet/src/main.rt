@@ -2,9 +2,8 @@
 // Answers read as document 01 has them: the number, the state or a dash, the operations.
 use boot_loader::BootLoader;
 use firmware_state::BlockingFirmwareState;
-use firmware_updater::BlockingFirmwareUpdater;
 use geometry::Geometry;
-use geometry::Sizes;
+use geometry::StateSizes;
 use rules::Answer;
 use show::Expected;
 
@@ -18,6 +17,11 @@ type Dfu = [u8; 16];
 
 type Marks = [u8; 16];
 
+// Words of one byte, in erase units of es bytes.
+fn state_sizes(es: u32) -> StateSizes {
+    StateSizes { es, ws: 1 }
+}
+
 // Erase 4, 4, es; write 2, 2, 1; b = 2.
 fn sizes(es: u32) -> Geometry {
     Geometry {
@@ -25,8 +29,7 @@ fn sizes(es: u32) -> Geometry {
         wa: 2,
         ed: 4,
         wd: 2,
-        es,
-        ws: 1,
+        state: state_sizes(es),
         b: 2,
     }
 }
@@ -275,7 +278,7 @@ fn case_j() -> u32 {
 }
 
 fn mark_booted(state: &mut Marks) -> Answer {
-    BlockingFirmwareState::new(16, 1).mark_booted(state, 1)
+    BlockingFirmwareState::new(state_sizes(16)).mark_booted(state, 1)
 }
 
 // The same with 4N + 2 state words. The last mark would never be read and the image would be mixed, so both boots are refused.
@@ -299,7 +302,7 @@ fn boot_k(active: &mut Active, dfu: &mut Dfu, state: &mut [u8; 14], budget: u32)
 }
 
 fn confirm_k(state: &mut [u8; 14]) -> Answer {
-    BlockingFirmwareState::new(14, 1).mark_booted(state, 1)
+    BlockingFirmwareState::new(state_sizes(14)).mark_booted(state, 1)
 }
 
 fn told_k(answer: Answer, active: &Active, dfu: &Dfu, state: &[u8; 14]) -> u32 {
@@ -337,7 +340,7 @@ fn boot_k_more(active: &mut Active, dfu: &mut Dfu, state: &mut [u8; 15], budget:
 }
 
 fn confirm_k_more(state: &mut [u8; 15]) -> Answer {
-    BlockingFirmwareState::new(15, 1).mark_booted(state, 1)
+    BlockingFirmwareState::new(state_sizes(15)).mark_booted(state, 1)
 }
 
 fn told_k_more(answer: Answer, active: &Active, dfu: &Dfu, state: &[u8; 15]) -> u32 {
@@ -480,8 +483,7 @@ fn wide() -> BootLoader {
         wa: 2,
         ed: 4,
         wd: 2,
-        es: 28,
-        ws: 4,
+        state: StateSizes { es: 28, ws: 4 },
         b: 4,
     })
 }

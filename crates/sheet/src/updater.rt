@@ -5,6 +5,7 @@ use firmware_state::BlockingFirmwareState;
 use firmware_updater::BlockingFirmwareUpdater;
 use firmware_updater::Written;
 use geometry::Sizes;
+use geometry::StateSizes;
 use rules::Answer;
 
 type Dfu = [u8; 16];
@@ -26,7 +27,7 @@ fn marks() -> u32 {
 }
 
 fn mark(state: &mut Marks) -> Answer {
-    BlockingFirmwareState::new(16, 1).mark_updated(state, 3)
+    BlockingFirmwareState::new(StateSizes { es: 16, ws: 1 }).mark_updated(state, 3)
 }
 
 fn marked(label: &[u8], answer: Answer, expected: Expected, state: &Marks) -> u32 {
@@ -48,8 +49,7 @@ fn writes() -> u32 {
     let sizes = Sizes {
         ed: 4,
         wd: 2,
-        es: 16,
-        ws: 1,
+        state: StateSizes { es: 16, ws: 1 },
     };
     let first = write(
         BlockingFirmwareUpdater::new(sizes),

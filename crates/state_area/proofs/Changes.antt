@@ -1,15 +1,16 @@
 -- How the operations on the state area follow from those of the flash on any area. Assumes nothing.
-use mathlib.Core.Path.{_≡_, refl, ap, _∙_, sym}
-use mathlib.Core.List.{List, [], _∷_, _++_}
+use mathlib.Core.Path.{_≡_}
+use mathlib.Core.List.{List}
 use Prim.Native.Nat.{ℕ, _-_}
 use native.Mathlib.Nat.{sub-zero}
 use lib.ListN.{length, replicate}
 use Rattle.state.specs.Magic.{marked}
+use Rattle.geometry.specs.declared.StateSizes.{StateSizes}
 use Rattle.mem_flash.specs.declared.Budget.{Budget}
 use Rattle.mem_flash.specs.declared.Flow.{Flow}
 use Rattle.mem_flash.specs.declared.Flow.the-variants.{On, Cut}
 use Rattle.mem_flash.specs.Flash.{Area, state, Op, change, eraseOps}
-use Rattle.mem_flash.specs.Run.{flash, ended, run, placed, InArea, writeOps}
+use Rattle.mem_flash.specs.Run.{flash, placed, InArea, writeOps}
 use Rattle.mem_flash.proofs.Runs.{area-on, area-cut}
 use Rattle.rules.specs.StateArea.{invalidateOp, magicOp}
 use Rattle.rules.specs.Boot.{renewOps}
@@ -20,18 +21,20 @@ in-state : (k : ℕ) (os : Area → List Op) (st st′ : List ℕ) (r : Flow) �
 unfolding placed change
 in-state k os st st′ r w a d = w state (flash a d st)
 
-pub invalidated : (k ws : ℕ) (st st′ : List ℕ) (r : Flow) → InArea k (writeOps ws (replicate ws 0x00)) st st′ r → Invalidated k ws st st′ r
+pub invalidated : (k : ℕ) (z : StateSizes) (st st′ : List ℕ) (r : Flow) → InArea k (writeOps (z .ws) (replicate (z .ws) 0x00)) st st′ r
+    → Invalidated k z st st′ r
 unfolding invalidateOp marked
-invalidated k ws st st′ r w = in-state k _ st st′ r w
+invalidated k z st st′ r w = in-state k _ st st′ r w
 
-module _ (k es ws m : ℕ) (st st₁ : List ℕ) (r : Flow) (w : InArea k (λ a. eraseOps es a 0 (length st - 0)) st st₁ r) where
-  erases : InArea k (λ a. eraseOps es a 0 (length st)) st st₁ r
+module _ (k : ℕ) (z : StateSizes) (m : ℕ) (st st₁ : List ℕ) (r : Flow) (w : InArea k (λ a. eraseOps (z .es) a 0 (length st - 0)) st st₁ r) where
+  erases : InArea k (λ a. eraseOps (z .es) a 0 (length st)) st st₁ r
   erases = rw (sub-zero (length st)) at w
 
-  pub renew-cut : r ≡ Cut → Renewed k es ws m st st₁ Cut
+  pub renew-cut : r ≡ Cut → Renewed k z m st st₁ Cut
   unfolding renewOps magicOp
-  renew-cut o = in-state k _ st st₁ Cut (area-cut k _ st st₁ r erases (writeOps 0 (replicate ws m)) o)
+  renew-cut o = in-state k _ st st₁ Cut (area-cut k _ st st₁ r erases (writeOps 0 (replicate (z .ws) m)) o)
 
-  pub renew-on : (l : Budget) (st₂ : List ℕ) (q : Flow) → r ≡ On l → InArea (l .0) (writeOps 0 (replicate ws m)) st₁ st₂ q → Renewed k es ws m st st₂ q
+  pub renew-on : (l : Budget) (st₂ : List ℕ) (q : Flow) → r ≡ On l → InArea (l .0) (writeOps 0 (replicate (z .ws) m)) st₁ st₂ q
+      → Renewed k z m st st₂ q
   unfolding renewOps magicOp
-  renew-on l st₂ q o v = in-state k _ st st₂ q (area-on k _ st st₁ r erases (writeOps 0 (replicate ws m)) l st₂ q o v)
+  renew-on l st₂ q o v = in-state k _ st st₂ q (area-on k _ st st₁ r erases (writeOps 0 (replicate (z .ws) m)) l st₂ q o v)

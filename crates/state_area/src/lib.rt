@@ -2,81 +2,82 @@
 // the progress, which the loader alone asks for.
 // A word that an area does not have whole is what there is of it, so nothing is asked of the caller.
 ghost use mathlib.Core.Path.{_≡_};
-ghost use Prim.Native.Nat.{_-_, _*_, _≤_, _<_, min};
+ghost use Prim.Native.Nat.{_-_, _*_, _≤_, _<_};
 ghost use lib.ListN.{length};
 ghost use Rattle.state.specs.Magic.{throughout};
 ghost use Rattle.geometry.specs.Geometry.{words};
 ghost use Rattle.state_area.specs.Area.{Invalidated, Renewed};
 ghost use Rattle.rules.specs.StateArea.{word, readState, valid, marksDone, progress};
 use geometry::Offset;
+use geometry::StateSizes;
 use mem_flash::Budget;
 use mem_flash::Flow;
 use state::State;
 
 mod search;
 
-fn least(a: usize, b: usize) -> usize
-    ensures { λ r. ⌜ r ≡ min a b ⌝ }
-{
-    if a < b { a } else { b }
-}
-
 // Whether each byte of word 0 is `value`.
-pub fn magic_is(state: &[u8], ws: usize, value: u8) -> bool
-    ensures { λ r. ⌜ r ≡ throughout value (word ws 0 (now (state .entry))) ⌝ }
+pub fn magic_is(state: &[u8], z: StateSizes, value: u8) -> bool
+    ensures { λ r. ⌜ r ≡ throughout value (word z 0 (now (state .entry))) ⌝ }
 {
-    let end = least(ws, state.len());
+    let ws = z.ws as usize;
+    let end = geometry::least(ws, state.len());
     state::word::all_are(&state[..end], value)
 }
 
 // The state that word 0 stands for.
-pub fn read(state: &[u8], ws: usize) -> State
-    ensures { λ r. ⌜ r ≡ readState ws (now (state .entry)) ⌝ }
+pub fn read(state: &[u8], z: StateSizes) -> State
+    ensures { λ r. ⌜ r ≡ readState z (now (state .entry)) ⌝ }
 {
-    let end = least(ws, state.len());
+    let ws = z.ws as usize;
+    let end = geometry::least(ws, state.len());
     State::from(&state[..end])
 }
 
 // Whether the progress counts: each byte of word 1 is as an erase leaves it.
-pub fn is_valid(state: &[u8], ws: usize) -> bool
-    ensures { λ r. ⌜ r ≡ valid ws (now (state .entry)) ⌝ }
+pub fn is_valid(state: &[u8], z: StateSizes) -> bool
+    ensures { λ r. ⌜ r ≡ valid z (now (state .entry)) ⌝ }
 {
-    let start = least(ws, state.len());
+    let ws = z.ws as usize;
+    let start = geometry::least(ws, state.len());
     let rest = &state[start..];
-    let end = least(ws, rest.len());
+    let end = geometry::least(ws, rest.len());
     state::word::all_are(&rest[..end], State::ERASE_VALUE)
 }
 
 // How many marks are read: three fewer than there are words.
-pub fn most_marks(n: usize, ws: usize) -> usize
-    ensures { λ r. ⌜ r ≡ words ws n - 3 ⌝ }
+pub fn most_marks(n: usize, z: StateSizes) -> usize
+    ensures { λ r. ⌜ r ≡ words (z .ws) n - 3 ⌝ }
 {
+    let ws = z.ws as usize;
     if ws == 0 {
         return 0;
     }
     let t = n / ws;
-    t - least(t, 3)
+    t - geometry::least(t, 3)
 }
 
 // The first open mark among those that are read, or how many these are. A mark is open while it holds an erased byte, so the first
 // erased byte of them all, wherever in its word it stands, is in the first open mark: one search serves words of every size.
-fn first_open(state: &[u8], ws: usize) -> usize
-    requires { ⌜ (0 < ws) × (4 * ws ≤ length (now state)) ⌝ }
-    ensures { λ r. ⌜ r ≡ marksDone ws (now (state .entry)) ⌝ }
+fn first_open(state: &[u8], z: StateSizes) -> usize
+    requires { ⌜ (0 < z .ws) × (4 * z .ws ≤ length (now state)) ⌝ }
+    ensures { λ r. ⌜ r ≡ marksDone z (now (state .entry)) ⌝ }
 {
+    let ws = z.ws as usize;
     let start = 2 * ws;
     // Where nothing is done yet there is nothing to search.
     if state[start] == State::ERASE_VALUE {
         return 0;
     }
-    let end = start + most_marks(state.len(), ws) * ws;
+    let end = start + most_marks(state.len(), z) * ws;
     search::first(&state[start..end], State::ERASE_VALUE) / ws
 }
 
 // The leading done marks, whether they count or not.
-pub fn marks_done(state: &[u8], ws: usize) -> usize
-    ensures { λ r. ⌜ r ≡ marksDone ws (now (state .entry)) ⌝ }
+pub fn marks_done(state: &[u8], z: StateSizes) -> usize
+    ensures { λ r. ⌜ r ≡ marksDone z (now (state .entry)) ⌝ }
 {
+    let ws = z.ws as usize;
     if ws == 0 {
         return 0;
     }
@@ -84,33 +85,34 @@ pub fn marks_done(state: &[u8], ws: usize) -> usize
     if state.len() / 4 < ws {
         return 0;
     }
-    first_open(state, ws)
+    first_open(state, z)
 }
 
 // The first step that is not done, as the marks say it; where they do not count, as many as are read.
-pub fn progress(state: &[u8], ws: usize) -> usize
-    ensures { λ r. ⌜ r ≡ progress ws (now (state .entry)) ⌝ }
+pub fn progress(state: &[u8], z: StateSizes) -> usize
+    ensures { λ r. ⌜ r ≡ progress z (now (state .entry)) ⌝ }
 {
-    if !is_valid(state, ws) {
-        return most_marks(state.len(), ws);
+    if !is_valid(state, z) {
+        return most_marks(state.len(), z);
     }
-    marks_done(state, ws)
+    marks_done(state, z)
 }
 
 // Makes the progress invalid: one operation.
-pub fn invalidate(state: &mut [u8], ws: usize, left: Budget) -> Flow
-    ensures { λ r. ⌜ Invalidated (left .0) ws (now (state .entry)) (now (state .exit)) r ⌝ }
+pub fn invalidate(state: &mut [u8], z: StateSizes, left: Budget) -> Flow
+    ensures { λ r. ⌜ Invalidated (left .0) z (now (state .entry)) (now (state .exit)) r ⌝ }
 {
+    let ws = z.ws as usize;
     mem_flash::write_word(state, Offset(ws), State::MARK_VALUE, ws, left)
 }
 
 // Erases the whole area, magic and progress, and writes a magic.
-pub fn renew(state: &mut [u8], es: usize, ws: usize, magic: u8, left: Budget) -> Flow
-    ensures { λ r. ⌜ Renewed (left .0) es ws magic (now (state .entry)) (now (state .exit)) r ⌝ }
+pub fn renew(state: &mut [u8], z: StateSizes, magic: u8, left: Budget) -> Flow
+    ensures { λ r. ⌜ Renewed (left .0) z magic (now (state .entry)) (now (state .exit)) r ⌝ }
 {
     let n = state.len();
-    let Flow::On(rest) = mem_flash::erase(state, Offset(0), Offset(n), es, left) else {
+    let Flow::On(rest) = mem_flash::erase(state, Offset(0), Offset(n), z.es as usize, left) else {
         return Flow::Cut;
     };
-    mem_flash::write_word(state, Offset(0), magic, ws, rest)
+    mem_flash::write_word(state, Offset(0), magic, z.ws as usize, rest)
 }

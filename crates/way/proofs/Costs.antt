@@ -41,20 +41,20 @@ to-image i = go (eqb (i % 2) 0)
     go true = tt
     go false = tt
 
-pub next-count : (g : Geometry) (m : ℕ) (c : Copy) (f : Flash) → c .to ≡ stepTo m → progress (g .ws) (f .state) ≡ m
+pub next-count : (g : Geometry) (m : ℕ) (c : Copy) (f : Flash) → c .to ≡ stepTo m → progress (g .state) (f .state) ≡ m
     → length (copyOps g c f) ≡ nextCost g f
 unfolding nextCost
 next-count g m c f to done = step-count g c f ∙ ap (stepCost g) (to ∙ ap stepTo (sym done))
 
 -- a flash whose progress is even costs a step to DFU next
-pub even-cost : (g : Geometry) (x : Flash) (n : ℕ) → progress (g .ws) (x .state) ≡ 2 * n → nextCost g x ≡ stepCost g dfu
+pub even-cost : (g : Geometry) (x : Flash) (n : ℕ) → progress (g .state) (x .state) ≡ 2 * n → nextCost g x ≡ stepCost g dfu
 unfolding nextCost
-even-cost g x n e = ap (stepCost g) (even-dfu (progress (g .ws) (x .state)) (ap (λ (i : ℕ). i % 2) e ∙ mul-mod-right 2 n))
+even-cost g x n e = ap (stepCost g) (even-dfu (progress (g .state) (x .state)) (ap (λ (i : ℕ). i % 2) e ∙ mul-mod-right 2 n))
 
 -- no step costs more than the dearer
 pub next-dearer : (g : Geometry) (f : Flash) → nextCost g f ≤ dearerCost g
 unfolding nextCost stepTo dearerCost pick
-next-dearer g f = go (eqb (progress (g .ws) (f .state) % 2) 0)
+next-dearer g f = go (eqb (progress (g .state) (f .state) % 2) 0)
   where
     go : (b : Bool) → stepCost g (pick b dfu active) ≤ dearerCost g
     go true = le-max-left (stepCost g dfu) (stepCost g active)

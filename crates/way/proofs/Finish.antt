@@ -12,6 +12,7 @@ use Rattle.state.specs.declared.State.{State}
 use Rattle.state.specs.declared.State.the-variants.{Revert}
 use Rattle.state.specs.Magic.{erased, marked, magic}
 use Rattle.geometry.specs.declared.Geometry.{Geometry}
+use Rattle.geometry.specs.declared.StateSizes.{StateSizes}
 use Rattle.mem_flash.specs.Flash.{state, Flash, Op, blank, erasedAt, writtenAt, change, apply, applyAll, eraseOps, after}
 use Rattle.mem_flash.specs.Run.{placed}
 use Rattle.mem_flash.proofs.Stretches.{bytes-replicate, blank-all, written-erased, length-written}
@@ -29,101 +30,101 @@ closed A R st = record { active = A; dfu = R; state = st }
 
 -- the operations, for a state area of S bytes
 unfoldable pub closeOps : Geometry → ℕ → List Op
-closeOps g S = invalidateOp (g .ws) ∷ renewOps (g .es) (g .ws) S (magic Revert)
+closeOps g S = invalidateOp (g .state) ∷ renewOps (g .state) S (magic Revert)
 
 pub finish-close : (g : Geometry) (f : Flash) (S : ℕ) → length (f .state) ≡ S → finishOps g f ≡ closeOps g S
 unfolding finishOps closeOps
 finish-close g f S e = ap (closeOps g) e
 
-pub renew-count : (es ws n m : ℕ) → length (renewOps es ws n m) ≡ 1 + n / es
+pub renew-count : (z : StateSizes) (n m : ℕ) → length (renewOps z n m) ≡ 1 + n / z .es
 unfolding renewOps
-renew-count es ws n m = length-append (eraseOps es state 0 n) (magicOp ws m ∷ []) ∙ omega (arith, erase-count es state 0 n)
+renew-count z n m = length-append (eraseOps (z .es) state 0 n) (magicOp z m ∷ []) ∙ omega (arith, erase-count (z .es) state 0 n)
 
-pub close-count : (g : Geometry) (S : ℕ) → length (closeOps g S) ≡ 2 + S / g .es
+pub close-count : (g : Geometry) (S : ℕ) → length (closeOps g S) ≡ 2 + S / g .state .es
 unfolding closeOps
-close-count g S = omega (arith, renew-count (g .es) (g .ws) S (magic Revert))
+close-count g S = omega (arith, renew-count (g .state) S (magic Revert))
 
-pub finish-count : (g : Geometry) (f : Flash) → length (finishOps g f) ≡ 2 + length (f .state) / g .es
+pub finish-count : (g : Geometry) (f : Flash) → length (finishOps g f) ≡ 2 + length (f .state) / g .state .es
 finish-count g f = ap length (finish-close g f (length (f .state)) refl) ∙ close-count g (length (f .state))
 
 module _ (A R : List ℕ) where
-  pub closed-void : (w : ℕ) (st : List ℕ)
-      → apply (invalidateOp w) (closed A R st) ≡ closed A R (writtenAt w (replicate w marked) st)
+  pub closed-void : (z : StateSizes) (st : List ℕ)
+      → apply (invalidateOp z) (closed A R st) ≡ closed A R (writtenAt (z .ws) (replicate (z .ws) marked) st)
   unfolding invalidateOp apply change closed
-  closed-void w st = refl
+  closed-void z st = refl
 
   -- the state area erased
-  wiped : (es n : ℕ) (st : List ℕ) → n / es * es ≡ n → length st ≡ n
-      → applyAll (eraseOps es state 0 n) (closed A R st) ≡ closed A R (replicate n erased)
+  wiped : (unit n : ℕ) (st : List ℕ) → n / unit * unit ≡ n → length st ≡ n
+      → applyAll (eraseOps unit state 0 n) (closed A R st) ≡ closed A R (replicate n erased)
   unfolding placed change closed erasedAt
-  wiped es n st whole e =
-      erase-whole es state 0 n whole st (closed A R st) ∙ ap (closed A R) (blank-all n st e)
+  wiped unit n st whole e =
+      erase-whole unit state 0 n whole st (closed A R st) ∙ ap (closed A R) (blank-all n st e)
 
-  pub signed : (s : State) (w n : ℕ) → w ≤ n
-      → apply (magicOp w (magic s)) (closed A R (replicate n erased)) ≡ closed A R (magicArea w s n)
+  pub signed : (s : State) (z : StateSizes) (n : ℕ) → z .ws ≤ n
+      → apply (magicOp z (magic s)) (closed A R (replicate n erased)) ≡ closed A R (magicArea z s n)
   unfolding magicOp apply change closed magicArea
-  signed s w n h =
-      let r : ℕ = n - w in
-      let e : n ≡ w + r = omega arith in
+  signed s z n h =
+      let r : ℕ = n - z .ws in
+      let e : n ≡ z .ws + r = omega arith in
       flash-path refl refl
-      (ap (writtenAt 0 (replicate w (magic s)))
-      (ap (λ (z : ℕ). replicate z erased) e ∙ sym (replicate-append-replicate w r erased))
-      ∙ written-erased [] (replicate w (magic s)) (replicate r erased) 0 w refl (length-replicate w (magic s))
-      (bytes-replicate w (magic s) (magic-byte s)))
+      (ap (writtenAt 0 (replicate (z .ws) (magic s)))
+      (ap (λ (o : ℕ). replicate o erased) e ∙ sym (replicate-append-replicate (z .ws) r erased))
+      ∙ written-erased [] (replicate (z .ws) (magic s)) (replicate r erased) 0 (z .ws) refl (length-replicate (z .ws) (magic s))
+      (bytes-replicate (z .ws) (magic s) (magic-byte s)))
 
   -- the erase and the magic of any state, then all operations of a revert's end
-  pub renewed : (s : State) (es w n : ℕ) (st : List ℕ) → n / es * es ≡ n → length st ≡ n → w ≤ n
-      → applyAll (renewOps es w n (magic s)) (closed A R st) ≡ closed A R (magicArea w s n)
+  pub renewed : (s : State) (z : StateSizes) (n : ℕ) (st : List ℕ) → n / z .es * z .es ≡ n → length st ≡ n → z .ws ≤ n
+      → applyAll (renewOps z n (magic s)) (closed A R st) ≡ closed A R (magicArea z s n)
   unfolding renewOps applyAll
-  renewed s es w n st whole e h =
-      apply-append (eraseOps es state 0 n) (magicOp w (magic s) ∷ []) (closed A R st)
-      ∙ ap (apply (magicOp w (magic s))) (wiped es n st whole e) ∙ signed s w n h
+  renewed s z n st whole e h =
+      apply-append (eraseOps (z .es) state 0 n) (magicOp z (magic s) ∷ []) (closed A R st)
+      ∙ ap (apply (magicOp z (magic s))) (wiped (z .es) n st whole e) ∙ signed s z n h
 
-  pub finished : (g : Geometry) (n : ℕ) (st : List ℕ) → n / g .es * g .es ≡ n → length st ≡ n → g .ws ≤ n
-      → applyAll (closeOps g n) (closed A R st) ≡ closed A R (magicArea (g .ws) Revert n)
+  pub finished : (g : Geometry) (n : ℕ) (st : List ℕ) → n / g .state .es * g .state .es ≡ n → length st ≡ n → g .state .ws ≤ n
+      → applyAll (closeOps g n) (closed A R st) ≡ closed A R (magicArea (g .state) Revert n)
   unfolding applyAll closeOps
   finished g n st whole e h =
-      ap (applyAll (renewOps (g .es) (g .ws) n (magic Revert))) (closed-void (g .ws) st)
-      ∙ renewed Revert (g .es) (g .ws) n (writtenAt (g .ws) (replicate (g .ws) marked) st) whole
-      (length-written (g .ws) (replicate (g .ws) marked) st ∙ e) h
+      ap (applyAll (renewOps (g .state) n (magic Revert))) (closed-void (g .state) st)
+      ∙ renewed Revert (g .state) n (writtenAt (g .state .ws) (replicate (g .state .ws) marked) st) whole
+      (length-written (g .state .ws) (replicate (g .state .ws) marked) st ∙ e) h
 
   -- cut inside the erase: its first units are erased, and the rest is as it was
-  renew-erasing : (es w n m j : ℕ) (st : List ℕ) → j < n / es
-      → after j (renewOps es w n m) (closed A R st) ≡ closed A R (blank (j * es) st)
+  renew-erasing : (z : StateSizes) (n m j : ℕ) (st : List ℕ) → j < n / z .es
+      → after j (renewOps z n m) (closed A R st) ≡ closed A R (blank (j * z .es) st)
   unfolding renewOps placed change closed
-  renew-erasing es w n m j st h =
-      after-within j (eraseOps es state 0 n) (magicOp w m ∷ []) (closed A R st) (omega (arith, erase-count es state 0 n))
-      ∙ state-part es n j st (closed A R st) h
+  renew-erasing z n m j st h =
+      after-within j (eraseOps (z .es) state 0 n) (magicOp z m ∷ []) (closed A R st) (omega (arith, erase-count (z .es) state 0 n))
+      ∙ state-part (z .es) n j st (closed A R st) h
 
   -- cut at the magic: all units are
-  renew-unsigned : (es w n m : ℕ) (st : List ℕ)
-      → after (n / es) (renewOps es w n m) (closed A R st) ≡ closed A R (blank (n / es * es) st)
+  renew-unsigned : (z : StateSizes) (n m : ℕ) (st : List ℕ)
+      → after (n / z .es) (renewOps z n m) (closed A R st) ≡ closed A R (blank (n / z .es * z .es) st)
   unfolding renewOps placed change closed erasedAt
-  renew-unsigned es w n m st =
-      ap (λ (i : ℕ). after i (renewOps es w n m) (closed A R st)) (sym (erase-count es state 0 n))
-      ∙ after-between (eraseOps es state 0 n) (magicOp w m ∷ []) (closed A R st)
-      ∙ erase-units es state 0 n st (closed A R st)
+  renew-unsigned z n m st =
+      ap (λ (i : ℕ). after i (renewOps z n m) (closed A R st)) (sym (erase-count (z .es) state 0 n))
+      ∙ after-between (eraseOps (z .es) state 0 n) (magicOp z m ∷ []) (closed A R st)
+      ∙ erase-units (z .es) state 0 n st (closed A R st)
 
   -- so, with j operations: the first j units
-  pub renew-part : (es w n m j : ℕ) (st : List ℕ) → j ≤ n / es
-      → after j (renewOps es w n m) (closed A R st) ≡ closed A R (blank (j * es) st)
-  renew-part es w n m j st h = go (eq-or-lt-of-le h)
+  pub renew-part : (z : StateSizes) (n m j : ℕ) (st : List ℕ) → j ≤ n / z .es
+      → after j (renewOps z n m) (closed A R st) ≡ closed A R (blank (j * z .es) st)
+  renew-part z n m j st h = go (eq-or-lt-of-le h)
     where
-      go : (j ≡ n / es) ⊎ (j < n / es) → after j (renewOps es w n m) (closed A R st) ≡ closed A R (blank (j * es) st)
-      go (inl e) = rw e (renew-unsigned es w n m st)
-      go (inr l) = renew-erasing es w n m j st l
+      go : (j ≡ n / z .es) ⊎ (j < n / z .es) → after j (renewOps z n m) (closed A R st) ≡ closed A R (blank (j * z .es) st)
+      go (inl e) = rw e (renew-unsigned z n m st)
+      go (inr l) = renew-erasing z n m j st l
 
   -- and with the invalidation first, invalid
-  pub void-part : (es w n m j : ℕ) (st : List ℕ) → j ≤ n / es
-      → after (suc j) (invalidateOp w ∷ renewOps es w n m) (closed A R st)
-      ≡ closed A R (blank (j * es) (writtenAt w (replicate w marked) st))
-  void-part es w n m j st h =
-      after-next j (invalidateOp w) (renewOps es w n m) (closed A R st)
-      ∙ ap (after j (renewOps es w n m)) (closed-void w st)
-      ∙ renew-part es w n m j (writtenAt w (replicate w marked) st) h
+  pub void-part : (z : StateSizes) (n m j : ℕ) (st : List ℕ) → j ≤ n / z .es
+      → after (suc j) (invalidateOp z ∷ renewOps z n m) (closed A R st)
+      ≡ closed A R (blank (j * z .es) (writtenAt (z .ws) (replicate (z .ws) marked) st))
+  void-part z n m j st h =
+      after-next j (invalidateOp z) (renewOps z n m) (closed A R st)
+      ∙ ap (after j (renewOps z n m)) (closed-void z st)
+      ∙ renew-part z n m j (writtenAt (z .ws) (replicate (z .ws) marked) st) h
 
-  pub close-part : (g : Geometry) (n j : ℕ) (st : List ℕ) → j ≤ n / g .es
+  pub close-part : (g : Geometry) (n j : ℕ) (st : List ℕ) → j ≤ n / g .state .es
       → after (suc j) (closeOps g n) (closed A R st)
-      ≡ closed A R (blank (j * g .es) (writtenAt (g .ws) (replicate (g .ws) marked) st))
+      ≡ closed A R (blank (j * g .state .es) (writtenAt (g .state .ws) (replicate (g .state .ws) marked) st))
   unfolding closeOps
-  close-part g n j st h = void-part (g .es) (g .ws) n (magic Revert) j st h
+  close-part g n j st h = void-part (g .state) n (magic Revert) j st h

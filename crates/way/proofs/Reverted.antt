@@ -28,7 +28,7 @@ use Rattle.way.proofs.Tables.{revert-count}
 use Rattle.way.proofs.Wanted.{wants-none, wants-revert}
 
 -- steps whose marks are all read as done
-pub copies-past : (g : Geometry) (f : Flash) (j k i : ℕ) → i + 2 * j ≤ progress (g .ws) (f .state)
+pub copies-past : (g : Geometry) (f : Flash) (j k i : ℕ) → i + 2 * j ≤ progress (g .state) (f .state)
     → copiesOps g (revertFrom j k i) f ≡ []
 unfolding copiesOps revertFrom toDfu toActive
 copies-past g f zero k i h = refl
@@ -41,13 +41,13 @@ copies-past g f (suc j) k i h =
 
 -- n marks are done, and the validity word holds v
 unfoldable pub closing : Geometry → List ℕ → List ℕ → ℕ → ℕ → ℕ → Flash
-closing g A R t n v = closed A R (spread (g .ws) (markWords v n (t - n)))
+closing g A R t n v = closed A R (spread (g .state .ws) (markWords v n (t - n)))
 
 module _ (g : Geometry) (A R : List ℕ) (t n : ℕ) (h : n < t) where
-  state-size : (v : ℕ) → length (spread (g .ws) (markWords v n (t - n))) ≡ (2 + t) * g .ws
+  state-size : (v : ℕ) → length (spread (g .state .ws) (markWords v n (t - n))) ≡ (2 + t) * g .state .ws
   state-size v =
       let e : length (markWords v n (t - n)) ≡ 2 + t = omega (arith, length-marks v n (t - n)) in
-      length-spread (g .ws) (markWords v n (t - n)) ∙ ap (λ (z : ℕ). z * g .ws) e
+      length-spread (g .state .ws) (markWords v n (t - n)) ∙ ap (λ (z : ℕ). z * g .state .ws) e
 
 no-swap : Boot ≡ Swap → ⊥
 no-swap e = let z : _≡_ {A = ℕ} 0 1 = cc in omega arith
@@ -65,13 +65,13 @@ pub data Reverting (g : Geometry) (N S : ℕ) (h void : Flash) (U : ℕ) (gone :
 abbrev pub LastCut : Geometry → ℕ → (ℕ → Flash) → (ℕ → Type 0) → Flash → Type 0
 LastCut g U gone There x =
     ((r : ℕ) × (1 ≤ r) × (r ≤ U) × There r × (x ≡ gone (U + 1 - r)))
-    ⊎ (((r : ℕ) → 1 ≤ r → r ≤ U → There r → ⊥) × (readState (g .ws) (x .state) ≡ Swap))
+    ⊎ (((r : ℕ) → 1 ≤ r → r ≤ U → There r → ⊥) × (readState (g .state) (x .state) ≡ Swap))
 
 -- what a run of the operations os with a budget of k leaves, where m steps and the end were left: it ends; or nothing is wanted; or
 -- it is cut
 data Reverts (g : Geometry) (N S : ℕ) (h void : Flash) (U : ℕ) (gone : ℕ → Flash) (done now : Flash) (m k : ℕ)
     (os : List Op) : Type 0 where
-  ends : length os ≤ k → applyAll os now ≡ done → readState (g .ws) (now .state) ≡ Swap
+  ends : length os ≤ k → applyAll os now ≡ done → readState (g .state) (now .state) ≡ Swap
       → Reverts g N S h void U gone done now m k os
   idle : (j : ℕ) → 1 ≤ j → j ≤ U → now ≡ gone j → os ≡ [] → Reverts g N S h void U gone done now m k os
   cut : (l : ℕ) → k < length os → (nextCost g now ≤ k → l < m)
@@ -83,24 +83,24 @@ data Reverts (g : Geometry) (N S : ℕ) (h void : Flash) (U : ℕ) (gone : ℕ �
 pub record Course (g : Geometry) (N t : ℕ) (A R : List ℕ) (f₀ : Flash) : Type 0 where
   pub whole : Whole g
   pub cost : (x : Flash) → 3 ≤ nextCost g x
-  pub ws : 0 < g .ws
-  pub unit : g .ws ≤ g .es
-  pub units : (2 + t) * g .ws / g .es * g .es ≡ (2 + t) * g .ws
+  pub ws : 0 < g .state .ws
+  pub unit : g .state .ws ≤ g .state .es
+  pub units : (2 + t) * g .state .ws / g .state .es * g .state .es ≡ (2 + t) * g .state .ws
   pub page-some : 0 < page g
   pub room : 4 * N < t
   pub active : length A ≡ N * page g
-  pub way : Way g N ((2 + t) * g .ws) (2 * N) f₀ (revertFrom N 0 (2 * N)) (closing g A R t (4 * N) erased)
+  pub way : Way g N ((2 + t) * g .state .ws) (2 * N) f₀ (revertFrom N 0 (2 * N)) (closing g A R t (4 * N) erased)
 
 -- the state area's first j units erased, once the marks are void
 unfoldable pub erasedPart : Geometry → List ℕ → List ℕ → ℕ → ℕ → ℕ → Flash
-erasedPart g A R t n j = closed A R (blank (j * g .es) (spread (g .ws) (markWords marked n (t - n))))
+erasedPart g A R t n j = closed A R (blank (j * g .state .es) (spread (g .state .ws) (markWords marked n (t - n))))
 
 module _ {g : Geometry} {N t : ℕ} {A R : List ℕ} {f₀ : Flash} (course : Course g N t A R f₀) where
   abbrev S : ℕ
-  S = (2 + t) * g .ws
+  S = (2 + t) * g .state .ws
 
   abbrev U : ℕ
-  U = S / g .es
+  U = S / g .state .es
 
   abbrev h : Flash
   h = closing g A R t (4 * N) erased
@@ -112,7 +112,7 @@ module _ {g : Geometry} {N t : ℕ} {A R : List ℕ} {f₀ : Flash} (course : Co
   gone = erasedPart g A R t (4 * N)
 
   abbrev done : Flash
-  done = closed A R (magicArea (g .ws) Revert S)
+  done = closed A R (magicArea (g .state) Revert S)
 
   abbrev pub Turning : Flash → ℕ → Type 0
   Turning now m = Reverting g N S h void U gone now m
@@ -122,44 +122,44 @@ module _ {g : Geometry} {N t : ℕ} {A R : List ℕ} {f₀ : Flash} (course : Co
 
   -- with a unit erased the state area reads Boot, and nothing is wanted
   module _ (j : ℕ) (some : 1 ≤ j) (most : j ≤ U) where
-    pub gone-boot : readState (g .ws) (gone j .state) ≡ Boot
+    pub gone-boot : readState (g .state) (gone j .state) ≡ Boot
     unfolding erasedPart closed
     gone-boot =
-        blank-boot (g .ws) (j * g .es) (spread (g .ws) (markWords marked (4 * N) (t - 4 * N))) (course .ws)
-        (omega (arith, mul-le-mul-right (g .es) some, course .unit))
-        (omega (arith, mul-le-mul-right (g .es) most, course .units, state-size g A R t (4 * N) (course .room) marked))
+        blank-boot (g .state) (j * g .state .es) (spread (g .state .ws) (markWords marked (4 * N) (t - 4 * N))) (course .ws)
+        (omega (arith, mul-le-mul-right (g .state .es) some, course .unit))
+        (omega (arith, mul-le-mul-right (g .state .es) most, course .units, state-size g A R t (4 * N) (course .room) marked))
 
     pub gone-idle : bootOps g (gone j) ≡ []
     gone-idle = wants-none g (gone j) gone-boot
 
-  not-gone : (x : Flash) (j : ℕ) → 1 ≤ j → j ≤ U → x ≡ gone j → readState (g .ws) (x .state) ≡ Swap → ⊥
+  not-gone : (x : Flash) (j : ℕ) → 1 ≤ j → j ≤ U → x ≡ gone j → readState (g .state) (x .state) ≡ Swap → ⊥
   not-gone x j one most e swap =
-      no-swap (sym (gone-boot j one most) ∙ sym (ap (λ (y : Flash). readState (g .ws) (y .state)) e) ∙ swap)
+      no-swap (sym (gone-boot j one most) ∙ sym (ap (λ (y : Flash). readState (g .state) (y .state)) e) ∙ swap)
 
   -- the last operations, from a validity word that holds v: cut after the invalidation and j units, and whole
   close-gone : (v j : ℕ) → j ≤ U → after (suc j) (closeOps g S) (closing g A R t (4 * N) v) ≡ gone j
   unfolding closing erasedPart
   close-gone v j less =
-      close-part A R g S j (spread (g .ws) (markWords v (4 * N) (t - 4 * N))) less
-      ∙ ap (λ (l : List ℕ). closed A R (blank (j * g .es) l)) (void-written (g .ws) v (4 * N) (t - 4 * N))
+      close-part A R g S j (spread (g .state .ws) (markWords v (4 * N) (t - 4 * N))) less
+      ∙ ap (λ (l : List ℕ). closed A R (blank (j * g .state .es) l)) (void-written (g .state .ws) v (4 * N) (t - 4 * N))
 
   gone-none : gone 0 ≡ void
   unfolding closing erasedPart blank
-  gone-none = ap (λ (n : ℕ). closed A R (blank n (spread (g .ws) (markWords marked (4 * N) (t - 4 * N))))) (zero-mul (g .es))
+  gone-none = ap (λ (n : ℕ). closed A R (blank n (spread (g .state .ws) (markWords marked (4 * N) (t - 4 * N))))) (zero-mul (g .state .es))
 
-  closing-swap : (v : ℕ) → readState (g .ws) (closing g A R t (4 * N) v .state) ≡ Swap
+  closing-swap : (v : ℕ) → readState (g .state) (closing g A R t (4 * N) v .state) ≡ Swap
   unfolding closing closed
-  closing-swap v = reads-swap (g .ws) (course .ws) v (4 * N) (t - 4 * N) (omega (arith, course .room))
+  closing-swap v = reads-swap (g .state) (course .ws) v (4 * N) (t - 4 * N) (omega (arith, course .room))
 
   close-all : (v : ℕ) → applyAll (closeOps g S) (closing g A R t (4 * N) v) ≡ done
   unfolding closing
   close-all v =
-      finished A R g S (spread (g .ws) (markWords v (4 * N) (t - 4 * N))) (course .units)
+      finished A R g S (spread (g .state .ws) (markWords v (4 * N) (t - 4 * N))) (course .units)
       (state-size g A R t (4 * N) (course .room) v) (omega arith)
 
   -- where the last operations are cut after the first j: before the erase, or after i units of it
   data Stop (j : ℕ) (x : Flash) : Type 0 where
-    early : j < 2 → Turning x 1 → readState (g .ws) (x .state) ≡ Swap → Stop j x
+    early : j < 2 → Turning x 1 → readState (g .state) (x .state) ≡ Swap → Stop j x
     late : (i : ℕ) → j ≡ suc i → 1 ≤ i → i ≤ U → x ≡ gone i → Stop j x
 
   close-cut : (v : ℕ) → Turning (closing g A R t (4 * N) v) 1 → (j : ℕ) → j < 2 + U
@@ -168,12 +168,12 @@ module _ {g : Geometry} {N t : ℕ} {A R : List ℕ} {f₀ : Flash} (course : Co
       subst (Stop 0) (sym (after-first (closeOps g S) (closing g A R t (4 * N) v))) (early (omega arith) on (closing-swap v))
   close-cut v on (suc zero) less =
       let e : after 1 (closeOps g S) (closing g A R t (4 * N) v) ≡ void = close-gone v 0 (omega arith) ∙ gone-none in
-      early (omega arith) (voided e) (ap (λ (x : Flash). readState (g .ws) (x .state)) e ∙ closing-swap marked)
+      early (omega arith) (voided e) (ap (λ (x : Flash). readState (g .state) (x .state)) e ∙ closing-swap marked)
   close-cut v on (suc (suc i)) less = late (suc i) refl (omega arith) (omega arith) (close-gone v (suc i) (omega arith))
 
   -- the steps that were left, then the last operations
   tail-run : (v : ℕ) → Turning (closing g A R t (4 * N) v) 1 → (now : Flash) (m k : ℕ) (os : List Op) → length os ≤ k
-      → applyAll os now ≡ closing g A R t (4 * N) v → readState (g .ws) (now .state) ≡ Swap → 0 < m
+      → applyAll os now ≡ closing g A R t (4 * N) v → readState (g .state) (now .state) ≡ Swap → 0 < m
       → (nextCost g now ≤ k → k < length os + 2 → 1 < m) → Turned now m k (os ++ closeOps g S)
   tail-run v on now m k os l d swap more some = go (decLe (length os + (2 + U)) k)
     where
@@ -198,7 +198,7 @@ module _ {g : Geometry} {N t : ℕ} {A R : List ℕ} {f₀ : Flash} (course : Co
           cut 1 (omega (arith, size)) (λ c. some c (omega (arith, e))) (subst (λ (y : Flash). Turning y 1) same on′)
           (inr (
             λ r one most q. omega (arith, size, e),
-            ap (λ (y : Flash). readState (g .ws) (y .state)) (sym same) ∙ reads,
+            ap (λ (y : Flash). readState (g .state) (y .state)) (sym same) ∙ reads,
           ))
       stop x same short (late i is one most there) =
           let r : ℕ = U + 1 - i in
@@ -216,13 +216,13 @@ module _ {g : Geometry} {N t : ℕ} {A R : List ℕ} {f₀ : Flash} (course : Co
   unfolding closing closed pageCount pages
   void-reads =
       record {
-        swap = reads-swap (g .ws) (course .ws) marked (4 * N) (t - 4 * N) (omega (arith, course .room));
+        swap = reads-swap (g .state) (course .ws) marked (4 * N) (t - 4 * N) (omega (arith, course .room));
         paged = ap (λ (l : ℕ). l / page g) (course .active) ∙ mul-div-cancel N (course .page-some);
         sized = state-size g A R t (4 * N) (course .room) marked;
-        done = progress-void (g .ws) (course .ws) (4 * N) (t - 4 * N) (omega (arith, course .room));
+        done = progress-void (g .state) (course .ws) (4 * N) (t - 4 * N) (omega (arith, course .room));
         settled =
-            confirming-reverted (g .ws) N _
-            (omega (arith, done-marks (g .ws) (course .ws) marked (4 * N) (t - 4 * N) (omega (arith, course .room))));
+            confirming-reverted (g .state) N _
+            (omega (arith, done-marks (g .state) (course .ws) marked (4 * N) (t - 4 * N) (omega (arith, course .room))));
       }
 
   void-wants : bootOps g void ≡ closeOps g S
@@ -280,7 +280,7 @@ module _ {g : Geometry} {N t : ℕ} {A R : List ℕ} {f₀ : Flash} (course : Co
             (copying (subst (λ (x : Flash). OnWay g N S h x (2 * N) cs l) (sym at) o))
             (inr (
               λ r one most q. omega (arith, c, length-append steps (closeOps g S), close-count g S),
-              ap (λ (x : Flash). readState (g .ws) (x .state)) at
+              ap (λ (x : Flash). readState (g .state) (x .state)) at
                   ∙ on-stage o .reads .swap,
             ))
 
@@ -301,7 +301,7 @@ module _ {g : Geometry} {N t : ℕ} {A R : List ℕ} {f₀ : Flash} (course : Co
               (subst (λ (i : ℕ). OnWay g N S h (after k steps now) (2 * N) cs i) (still few) o),
         )
 
-    pub revert-at : progress (g .ws) (now .state) + rest ≡ 4 * N
+    pub revert-at : progress (g .state) (now .state) + rest ≡ 4 * N
     revert-at = omega (arith, found .sum, found .reads .done, revert-count N 0 (2 * N))
 
   -- ---- a run
@@ -321,43 +321,43 @@ module _ {g : Geometry} {N t : ℕ} {A R : List ℕ} {f₀ : Flash} (course : Co
       go (cut l c gain o w) = record { rest = l; inv = o; gain = gain }
 
   -- all steps are done where only the end is left and nothing is erased
-  past-steps : {x : Flash} {m : ℕ} → Turning x m → m ≤ 1 → readState (g .ws) (x .state) ≡ Swap → 4 * N ≤ progress (g .ws) (x .state)
+  past-steps : {x : Flash} {m : ℕ} → Turning x m → m ≤ 1 → readState (g .state) (x .state) ≡ Swap → 4 * N ≤ progress (g .state) (x .state)
   past-steps (copying on) less swap = omega (arith, revert-at on)
   past-steps (voided e) less swap = rw e (omega (arith, void-reads .done, course .room))
   past-steps {x} (emptied j one most e) less swap = absurd (not-gone x j one most e swap)
 
   -- where steps are left: the progress is below 4N, and something is wanted
-  steps-left : {now : Flash} {m : ℕ} → Turning now m → 0 < length (bootOps g now) → progress (g .ws) (now .state) < 4 * N
+  steps-left : {now : Flash} {m : ℕ} → Turning now m → 0 < length (bootOps g now) → progress (g .state) (now .state) < 4 * N
       → (rest : ℕ) × (m ≡ suc rest) × OnWay g N S h now (2 * N) (revertFrom N 0 (2 * N)) rest
   steps-left (copying {rest = rest} on) wanted few = (rest, refl, on)
   steps-left (voided e) wanted few =
       absurd
       (omega (
         arith,
-        past-steps (voided e) (omega arith) (ap (λ (x : Flash). readState (g .ws) (x .state)) e ∙ void-reads .swap),
+        past-steps (voided e) (omega arith) (ap (λ (x : Flash). readState (g .state) (x .state)) e ∙ void-reads .swap),
       ))
   steps-left (emptied j one most e) wanted few = absurd (omega (arith, ap length (ap (bootOps g) e ∙ gone-idle j one most)))
 
   -- a run that is cut there gains a step if it has the next step's cost, and none if not
   module _ {now : Flash} {m : ℕ} (on : Turning now m) (k : ℕ) (short : k < length (bootOps g now))
-      (few : progress (g .ws) (now .state) < 4 * N) where
+      (few : progress (g .state) (now .state) < 4 * N) where
     abbrev next : Flash
     next = after k (bootOps g now) now
 
-    pub revert-gains : nextCost g now ≤ k → readState (g .ws) (next .state) ≡ Swap
-        → progress (g .ws) (now .state) < progress (g .ws) (next .state)
+    pub revert-gains : nextCost g now ≤ k → readState (g .state) (next .state) ≡ Swap
+        → progress (g .state) (now .state) < progress (g .state) (next .state)
     revert-gains paid swap =
         let o = revert-kept on k short in
         let left = steps-left on (omega arith) few in
         go (left .0) (left .2) (o .rest) (o .inv) (omega (arith, o .gain paid, left .1))
       where
         go : (rest : ℕ) → OnWay g N S h now (2 * N) (revertFrom N 0 (2 * N)) rest → (l : ℕ) → Turning next l → l < suc rest
-            → progress (g .ws) (now .state) < progress (g .ws) (next .state)
+            → progress (g .state) (now .state) < progress (g .state) (next .state)
         go rest o l (copying o′) less = omega (arith, revert-at o, revert-at o′)
         go rest o l (voided e) less = omega (arith, past-steps {x = next} (voided e) (omega arith) swap)
         go rest o l (emptied j one most e) less = absurd (not-gone next j one most e swap)
 
-    pub revert-stays : k < nextCost g now → progress (g .ws) (next .state) ≡ progress (g .ws) (now .state)
+    pub revert-stays : k < nextCost g now → progress (g .state) (next .state) ≡ progress (g .state) (now .state)
     revert-stays less =
         let left = steps-left on (omega arith) few in
         let here = revert-at (left .2) in
@@ -389,7 +389,7 @@ module _ {g : Geometry} {N t : ℕ} {A R : List ℕ} {f₀ : Flash} (course : Co
       go (cut l c gain o w) = w
 
   -- a run that is not cut leaves the images, from a state area that reads Swap or from one with erased units
-  pub revert-done : {now : Flash} {m : ℕ} → Turning now m → readState (g .ws) (now .state) ≡ Swap → (k : ℕ)
+  pub revert-done : {now : Flash} {m : ℕ} → Turning now m → readState (g .state) (now .state) ≡ Swap → (k : ℕ)
       → length (bootOps g now) ≤ k → after k (bootOps g now) now ≡ done
   revert-done {now} {m} on swap k long = go (revert-run on k)
     where

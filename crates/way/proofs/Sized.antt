@@ -24,42 +24,42 @@ some-factor (suc n) b p e h = suc-le-suc zero-le
 -- N pages; every step costs three operations or more; a state area of 2 + t words with more than 4N marks, in whole erase
 -- units of a word or more
 pub record Sized (g : Geometry) (f : Flash) (t : ℕ) : Type 0 where
-  pub ws : 0 < g .ws
+  pub ws : 0 < g .state .ws
   pub paged : Paged (page g) (pageCount g f) (f .active) (f .dfu)
   pub cost : (x : Flash) → 3 ≤ nextCost g x
   pub whole : Whole g
-  pub state : length (f .state) ≡ (2 + t) * g .ws
-  pub units : length (f .state) / g .es * g .es ≡ length (f .state)
-  pub unit : g .ws ≤ g .es
+  pub state : length (f .state) ≡ (2 + t) * g .state .ws
+  pub units : length (f .state) / g .state .es * g .state .es ≡ length (f .state)
+  pub unit : g .state .ws ≤ g .state .es
   pub room : 4 * pageCount g f < t
 
 pub sized : (g : Geometry) (f : Flash) → bootRefusal g (length (f .active)) (length (f .dfu)) (length (f .state)) ≡ 0
-    → Sized g f (words (g .ws) (length (f .state)) - 2)
+    → Sized g f (words (g .state .ws) (length (f .state)) - 2)
 unfolding pageCount pages words stepCost nextCost bootWords
 sized g f r =
     let a = admitted g (length (f .active)) (length (f .dfu)) (length (f .state)) r in
-    let p : 0 < page g = page-some g (a .numbers) in
+    let p : 0 < page g = page-some (a .numbers) in
     let whole : Whole g = whole-page a in
     let active : length (f .active) / page g * page g ≡ length (f .active) =
     even-times (length (f .active)) (page g) (a .active-pages) in
-    let full : length (f .state) / g .ws * g .ws ≡ length (f .state) =
-    div-mul-cancel (g .ws) (dvd-trans (g .ws) (dvd-of-mod-eq-zero (g .ws) (a .unit-words))
-    (dvd-of-mod-eq-zero (g .es) (a .state-units))) in
-    let two : length (f .state) / g .ws ≡ 2 + (length (f .state) / g .ws - 2) = omega arith in
+    let full : length (f .state) / g .state .ws * g .state .ws ≡ length (f .state) =
+    div-mul-cancel (g .state .ws) (dvd-trans (g .state .ws) (dvd-of-mod-eq-zero (g .state .ws) (a .unit-words))
+    (dvd-of-mod-eq-zero (g .state .es) (a .state-units))) in
+    let two : length (f .state) / g .state .ws ≡ 2 + (length (f .state) / g .state .ws - 2) = omega arith in
     let chunks : 0 < page g / g .b = some-factor (page g / g .b) (g .b) (page g) (whole .chunks) p in
-    let e : g .es / g .ws * g .ws ≡ g .es = even-times (g .es) (g .ws) (a .unit-words) in
-    let n : 1 ≤ g .es / g .ws = some-factor (g .es / g .ws) (g .ws) (g .es) e (a .numbers .es .some) in
+    let e : g .state .es / g .state .ws * g .state .ws ≡ g .state .es = even-times (g .state .es) (g .state .ws) (a .unit-words) in
+    let n : 1 ≤ g .state .es / g .state .ws = some-factor (g .state .es / g .state .ws) (g .state .ws) (g .state .es) e (a .numbers .es .some) in
     record {
       ws = a .numbers .ws .some;
       paged = record { some = p; active = sym active; dfu = omega (arith, a .dfu-longer, active) };
       cost = λ x.
-          let to : Area = stepTo (progress (g .ws) (x .state)) in
+          let to : Area = stepTo (progress (g .state) (x .state)) in
           let u : 0 < page g / unitOf g to =
-          some-factor (page g / unitOf g to) (unitOf g to) (page g) (whole .units to (to-image (progress (g .ws) (x .state)))) p in
+          some-factor (page g / unitOf g to) (unitOf g to) (page g) (whole .units to (to-image (progress (g .state) (x .state)))) p in
           omega arith;
       whole = whole;
-      state = sym full ∙ ap (λ (n : ℕ). n * g .ws) two;
-      units = even-times (length (f .state)) (g .es) (a .state-units);
-      unit = omega (arith, e, mul-le-mul-right (g .ws) n);
+      state = sym full ∙ ap (λ (n : ℕ). n * g .state .ws) two;
+      units = even-times (length (f .state)) (g .state .es) (a .state-units);
+      unit = omega (arith, e, mul-le-mul-right (g .state .ws) n);
       room = omega (arith, a .state-words);
     }

@@ -57,7 +57,7 @@ unfoldable pub stepped : Geometry → Copy → Flash → Flash
 stepped g c f =
     change
     state
-    (writtenAt ((2 + c .mark) * g .ws) (replicate (g .ws) marked))
+    (writtenAt ((2 + c .mark) * g .state .ws) (replicate (g .state .ws) marked))
     (placed (c .to) (withPage (page g) (c .target) (pageAt (page g) (c .source) (sourceOf (c .to) f)) (areaOf (c .to) f)) f)
 
 pub near-refl : (g : Geometry) (c : Copy) (f : Flash) → Near g c f f
@@ -81,7 +81,7 @@ filling g c source = fillOps (unitOf g (c .to)) (page g) (g .b) (c .target * pag
 
 module _ {g : Geometry} {c : Copy} {f now : Flash} (whole : Whole g) (fits : Fits g c f) (near : Near g c f now) where
   abbrev markOps : List Op
-  markOps = markOp (g .ws) (c .mark) ∷ []
+  markOps = markOp (g .state) (c .mark) ∷ []
 
   -- a copy from a flash that is near f has the operations of one from f
   copy-near : copyOps g c now ≡ filling g c (sourceOf (c .to) f) ++ markOps

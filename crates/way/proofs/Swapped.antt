@@ -23,11 +23,11 @@ abbrev pub Swapping : Geometry → ℕ → ℕ → Flash → Flash → ℕ → T
 Swapping g N S h now rest = OnWay g N S h now 0 (swapFrom N 0) rest × (0 < rest)
 
 module _ {g : Geometry} {N S rest : ℕ} {h now : Flash} (on : Swapping g N S h now rest) where
-  pub swap-reads : readState (g .ws) (now .state) ≡ Swap
+  pub swap-reads : readState (g .state) (now .state) ≡ Swap
   swap-reads = on-stage (on .0) .reads .swap
 
   -- the steps done and the steps left are all of them
-  pub swap-at : progress (g .ws) (now .state) + rest ≡ 2 * N
+  pub swap-at : progress (g .state) (now .state) + rest ≡ 2 * N
   swap-at = let r = on-stage (on .0) in omega (arith, r .sum, r .reads .done, swap-count N 0)
 
   -- one run

@@ -93,7 +93,7 @@ pub record Images (p N : ℕ) (A D A′ D′ : List ℕ) : Type 0 where
 -- c pages of active and d of DFU are old, the others new; n marks of t are done
 unfoldable pub stageTable : Geometry → List ℕ → List ℕ → List ℕ → List ℕ → ℕ → ℕ → ℕ → ℕ → Flash
 stageTable g A D A′ D′ t c d n =
-    record { active = mix (page g) c A A′; dfu = mix (page g) d D D′; state = spread (g .ws) (markWords erased n (t - n)) }
+    record { active = mix (page g) c A A′; dfu = mix (page g) d D D′; state = spread (g .state .ws) (markWords erased n (t - n)) }
 
 mark-more : (w v n t : ℕ) → n < t
     → writtenAt ((2 + n) * w) (replicate w marked) (spread w (markWords v n (t - n))) ≡ spread w (markWords v (suc n) (t - suc n))
@@ -101,7 +101,7 @@ mark-more w v n t h =
     let e : t - n ≡ suc (t - suc n) = omega arith in
     ap (λ (r : ℕ). writtenAt ((2 + n) * w) (replicate w marked) (spread w (markWords v n r))) e ∙ mark-next w v n (t - suc n)
 
-module _ (g : Geometry) (N t : ℕ) (A D A′ D′ : List ℕ) (ws : 0 < g .ws) (im : Images (page g) N A D A′ D′) where
+module _ (g : Geometry) (N t : ℕ) (A D A′ D′ : List ℕ) (ws : 0 < g .state .ws) (im : Images (page g) N A D A′ D′) where
   abbrev P : ℕ
   P = page g
 
@@ -114,22 +114,22 @@ module _ (g : Geometry) (N t : ℕ) (A D A′ D′ : List ℕ) (ws : 0 < g .ws) 
   dfu-length : (d : ℕ) → d ≤ suc N → length (mix P d D D′) ≡ length D
   dfu-length d h = length-mix P d D D′ (im .dfu-same) (omega (arith, mul-le-mul-right P h, suc-mul N P, im .dfu))
 
-  pub table-reads : (c d n : ℕ) → c ≤ N → n < t → Reads g N ((2 + t) * g .ws) n (at c d n)
+  pub table-reads : (c d n : ℕ) → c ≤ N → n < t → Reads g N ((2 + t) * g .state .ws) n (at c d n)
   unfolding stageTable pageCount pages
   table-reads c d n hc h =
       let all : length (markWords erased n (t - n)) ≡ 2 + t = omega (arith, length-marks erased n (t - n)) in
       record {
-        swap = reads-swap (g .ws) ws erased n (t - n) (omega arith);
+        swap = reads-swap (g .state) ws erased n (t - n) (omega arith);
         paged = ap (λ (l : ℕ). l / P) (active-length c hc) ∙ mul-div-cancel N (im .some);
-        sized = length-spread (g .ws) (markWords erased n (t - n)) ∙ ap (λ (l : ℕ). l * g .ws) all;
-        done = progress-marks (g .ws) ws n (t - n) (omega arith);
-        settled = confirming-counted (g .ws) N _ (marks-valid (g .ws) ws n (t - n) (omega arith));
+        sized = length-spread (g .state .ws) (markWords erased n (t - n)) ∙ ap (λ (l : ℕ). l * g .state .ws) all;
+        done = progress-marks (g .state) ws n (t - n) (omega arith);
+        settled = confirming-counted (g .state) N _ (marks-valid (g .state) ws n (t - n) (omega arith));
       }
 
   -- a step to DFU: page k from active page s, with c pages of active and d of DFU old, moves d to d′
   leg-dfu : (c d d′ s k n : ℕ) → c ≤ N → d ≤ suc N → s < N → k * P + P ≤ length D → n < t → dfu ≡ stepTo n
       → withPage P k (pageAt P s (mix P c A A′)) (mix P d D D′) ≡ mix P d′ D D′
-      → Leg g N ((2 + t) * g .ws) n (toDfu n s k) (at c d n) (at c d′ (suc n))
+      → Leg g N ((2 + t) * g .state .ws) n (toDfu n s k) (at c d n) (at c d′ (suc n))
   unfolding stageTable toDfu stepped placed change sourceOf areaOf
   leg-dfu c d d′ s k n hc hd hs fit hn to e =
       record {
@@ -143,13 +143,13 @@ module _ (g : Geometry) (N t : ℕ) (A D A′ D′ : List ℕ) (ws : 0 < g .ws) 
               inside-source = rw (active-length c hc) (pages-le P hs);
               inside-target = rw (dfu-length d hd) fit;
             };
-        leads = flash-path refl e (mark-more (g .ws) erased n t hn);
+        leads = flash-path refl e (mark-more (g .state .ws) erased n t hn);
       }
 
   -- a step to active: page k from DFU page s moves c to c′
   leg-active : (c c′ d s k n : ℕ) → c ≤ N → d ≤ suc N → s * P + P ≤ length D → k < N → n < t → active ≡ stepTo n
       → withPage P k (pageAt P s (mix P d D D′)) (mix P c A A′) ≡ mix P c′ A A′
-      → Leg g N ((2 + t) * g .ws) n (toActive n s k) (at c d n) (at c′ d (suc n))
+      → Leg g N ((2 + t) * g .state .ws) n (toActive n s k) (at c d n) (at c′ d (suc n))
   unfolding stageTable toActive stepped placed change sourceOf areaOf
   leg-active c c′ d s k n hc hd fit hk hn to e =
       record {
@@ -163,7 +163,7 @@ module _ (g : Geometry) (N t : ℕ) (A D A′ D′ : List ℕ) (ws : 0 < g .ws) 
               inside-source = rw (dfu-length d hd) fit;
               inside-target = rw (active-length c hc) (pages-le P hk);
             };
-        leads = flash-path e refl (mark-more (g .ws) erased n t hn);
+        leads = flash-path e refl (mark-more (g .state .ws) erased n t hn);
       }
 
   module _ (k : ℕ) (h : k < N) (n : ℕ) (hn : n < t) where
@@ -173,28 +173,28 @@ module _ (g : Geometry) (N t : ℕ) (A D A′ D′ : List ℕ) (ws : 0 < g .ws) 
     inside-dfu : suc k * P + P ≤ length D
     inside-dfu = omega (arith, pages-le P h, im .dfu)
 
-    swap-dfu : dfu ≡ stepTo n → Leg g N ((2 + t) * g .ws) n (toDfu n k (suc k)) (at (suc k) (suc (suc k)) n) (at (suc k) (suc k) (suc n))
+    swap-dfu : dfu ≡ stepTo n → Leg g N ((2 + t) * g .state .ws) n (toDfu n k (suc k)) (at (suc k) (suc (suc k)) n) (at (suc k) (suc k) (suc n))
     swap-dfu to =
         leg-dfu (suc k) (suc (suc k)) (suc k) k (suc k) n h (omega arith) h inside-dfu hn to
         (ap (λ (v : List ℕ). withPage P (suc k) v (mix P (suc (suc k)) D D′))
         (page-mix-left P (suc k) A A′ (im .active-same) (omega (arith, inside-active)) k (omega arith) ∙ sym (im .dfu-page k h))
         ∙ mix-down P (suc k) D D′ inside-dfu)
 
-    swap-active : active ≡ stepTo n → Leg g N ((2 + t) * g .ws) n (toActive n k k) (at (suc k) (suc k) n) (at k (suc k) (suc n))
+    swap-active : active ≡ stepTo n → Leg g N ((2 + t) * g .state .ws) n (toActive n k k) (at (suc k) (suc k) n) (at k (suc k) (suc n))
     swap-active to =
         leg-active (suc k) k (suc k) k k n h (omega arith) (omega (arith, inside-dfu)) h hn to
         (ap (λ (v : List ℕ). withPage P k v (mix P (suc k) A A′))
         (page-mix-left P (suc k) D D′ (im .dfu-same) (omega (arith, inside-dfu)) k (omega arith) ∙ sym (im .active-page k h))
         ∙ mix-down P k A A′ inside-active)
 
-    revert-dfu : dfu ≡ stepTo n → Leg g N ((2 + t) * g .ws) n (toDfu n k k) (at k k n) (at k (suc k) (suc n))
+    revert-dfu : dfu ≡ stepTo n → Leg g N ((2 + t) * g .state .ws) n (toDfu n k k) (at k k n) (at k (suc k) (suc n))
     revert-dfu to =
         leg-dfu k k (suc k) k k n (omega arith) (omega arith) h (omega (arith, inside-dfu)) hn to
         (ap (λ (v : List ℕ). withPage P k v (mix P k D D′))
         (page-mix-right P k A A′ (im .active-same) (omega (arith, inside-active)) k (omega arith) ∙ im .active-page k h)
         ∙ mix-up P k D D′ (omega (arith, inside-dfu)))
 
-    revert-active : active ≡ stepTo n → Leg g N ((2 + t) * g .ws) n (toActive n (suc k) k) (at k (suc k) n) (at (suc k) (suc k) (suc n))
+    revert-active : active ≡ stepTo n → Leg g N ((2 + t) * g .state .ws) n (toActive n (suc k) k) (at k (suc k) n) (at (suc k) (suc k) (suc n))
     revert-active to =
         leg-active k (suc k) (suc k) (suc k) k n (omega arith) (omega arith) inside-dfu h hn to
         (ap (λ (v : List ℕ). withPage P k v (mix P k A A′))
@@ -203,12 +203,12 @@ module _ (g : Geometry) (N t : ℕ) (A D A′ D′ : List ℕ) (ws : 0 < g .ws) 
 
   -- the whole swap, from page k - 1 down
   pub swap-way : (k n z : ℕ) → n % 2 ≡ 0 → k ≤ N → n + 2 * k ≡ z → z < t
-      → Way g N ((2 + t) * g .ws) n (at k (suc k) n) (swapFrom k n) (at 0 1 z)
+      → Way g N ((2 + t) * g .state .ws) n (at k (suc k) n) (swapFrom k n) (at 0 1 z)
   unfolding swapFrom
   swap-way zero n z ev hk e hz = (table-reads 0 1 n hk (omega arith), ap (λ (i : ℕ). at 0 1 i) (omega arith))
   swap-way (suc k) n z ev hk e hz =
       let rest = swap-way k (suc (suc n)) z (omega arith) (omega arith) (omega arith) hz in
-      subst (λ (cs : List Copy). Way g N ((2 + t) * g .ws) n (at (suc k) (suc (suc k)) n) cs (at 0 1 z)) (sym (swap-steps k n)) (
+      subst (λ (cs : List Copy). Way g N ((2 + t) * g .state .ws) n (at (suc k) (suc (suc k)) n) cs (at 0 1 z)) (sym (swap-steps k n)) (
         at (suc k) (suc k) (suc n),
         swap-dfu k hk n (omega arith) (sym (even-dfu n ev)),
         (at k (suc k) (suc (suc n)), swap-active k hk (suc n) (omega arith) (odd-active n ev), rest),
@@ -216,7 +216,7 @@ module _ (g : Geometry) (N t : ℕ) (A D A′ D′ : List ℕ) (ws : 0 < g .ws) 
 
   -- the whole revert, from page k up
   pub revert-way : (j k n z : ℕ) → n % 2 ≡ 0 → k + j ≡ N → n + 2 * j ≡ z → z < t
-      → Way g N ((2 + t) * g .ws) n (at k k n) (revertFrom j k n) (at N N z)
+      → Way g N ((2 + t) * g .state .ws) n (at k k n) (revertFrom j k n) (at N N z)
   unfolding revertFrom
   revert-way zero k n z ev hk e hz =
       let a : k ≡ N = omega arith in
@@ -224,7 +224,7 @@ module _ (g : Geometry) (N t : ℕ) (A D A′ D′ : List ℕ) (ws : 0 < g .ws) 
       (table-reads k k n (omega arith) (omega arith), ap₂ (λ (i m : ℕ). at i i m) a b)
   revert-way (suc j) k n z ev hk e hz =
       let rest = revert-way j (suc k) (suc (suc n)) z (omega arith) (omega arith) (omega arith) hz in
-      subst (λ (cs : List Copy). Way g N ((2 + t) * g .ws) n (at k k n) cs (at N N z)) (sym (revert-steps j k n)) (
+      subst (λ (cs : List Copy). Way g N ((2 + t) * g .state .ws) n (at k k n) cs (at N N z)) (sym (revert-steps j k n)) (
         at k (suc k) (suc n),
         revert-dfu k (omega arith) n (omega arith) (sym (even-dfu n ev)),
         (at (suc k) (suc k) (suc (suc n)), revert-active k (omega arith) (suc n) (omega arith) (odd-active n ev), rest),

@@ -29,11 +29,11 @@ use Rattle.way.proofs.Costs.{next-count}
 
 -- all that a boot reads at f: the state Swap, N pages, S bytes of state, m steps done, and no confirmation that was cut
 pub record Reads (g : Geometry) (N S m : ℕ) (f : Flash) : Type 0 where
-  pub swap : readState (g .ws) (f .state) ≡ Swap
+  pub swap : readState (g .state) (f .state) ≡ Swap
   pub paged : pageCount g f ≡ N
   pub sized : length (f .state) ≡ S
-  pub done : progress (g .ws) (f .state) ≡ m
-  pub settled : confirming (g .ws) N (f .state) ≡ false
+  pub done : progress (g .state) (f .state) ≡ m
+  pub settled : confirming (g .state) N (f .state) ≡ false
 
 -- the step c, number m, leads from f to next
 pub record Leg (g : Geometry) (N S m : ℕ) (c : Copy) (f next : Flash) : Type 0 where
@@ -66,11 +66,11 @@ near-reads {g} {N} {f = f} c now i near r =
     let ln : length (now .active) ≡ length (f .active) =
     ap (λ (x : Flash). length (x .active)) (near .same) ∙ active-placed (c .to) (near .held) f (near .beside .size) in
     record {
-      swap = ap (readState (g .ws)) st ∙ r .swap;
+      swap = ap (readState (g .state)) st ∙ r .swap;
       paged = ap (λ (n : ℕ). n / page g) ln ∙ r .paged;
       sized = ap (λ (s : List ℕ). length s) st ∙ r .sized;
-      done = ap (progress (g .ws)) st ∙ r .done;
-      settled = ap (confirming (g .ws) N) st ∙ r .settled;
+      done = ap (progress (g .state)) st ∙ r .done;
+      settled = ap (confirming (g .state) N) st ∙ r .settled;
     }
 
 close-reads : (g : Geometry) (N S m : ℕ) (f : Flash) (cs : List Copy) (h now : Flash) → Way g N S m f cs h → Close g cs f now
@@ -114,20 +114,20 @@ pub data Went (g : Geometry) (N S : ℕ) (h : Flash) (m : ℕ) (cs : List Copy) 
       → OnWay g N S h (after k os now) m cs rest → Went g N S h m cs r now k os
 
 -- a step that is done already is passed over, and any other is done
-pub once-skip : (g : Geometry) (c : Copy) (f : Flash) → c .mark < progress (g .ws) (f .state) → onceOps g c f ≡ []
+pub once-skip : (g : Geometry) (c : Copy) (f : Flash) → c .mark < progress (g .state) (f .state) → onceOps g c f ≡ []
 unfolding onceOps pick
-once-skip g c f h = rw (lt-leb (progress (g .ws) (f .state)) (c .mark) h)
+once-skip g c f h = rw (lt-leb (progress (g .state) (f .state)) (c .mark) h)
 
-pub once-do : (g : Geometry) (c : Copy) (f : Flash) → progress (g .ws) (f .state) ≤ c .mark → onceOps g c f ≡ copyOps g c f
+pub once-do : (g : Geometry) (c : Copy) (f : Flash) → progress (g .state) (f .state) ≤ c .mark → onceOps g c f ≡ copyOps g c f
 unfolding onceOps pick
-once-do g c f h = rw (le-leb (progress (g .ws) (f .state)) (c .mark) h)
+once-do g c f h = rw (le-leb (progress (g .state) (f .state)) (c .mark) h)
 
-pub copies-skip : (g : Geometry) (c : Copy) (cs : List Copy) (f : Flash) → c .mark < progress (g .ws) (f .state)
+pub copies-skip : (g : Geometry) (c : Copy) (cs : List Copy) (f : Flash) → c .mark < progress (g .state) (f .state)
     → copiesOps g (c ∷ cs) f ≡ copiesOps g cs f
 unfolding copiesOps applyAll
 copies-skip g c cs f h = ap (λ (os : List Op). os ++ copiesOps g cs (applyAll os f)) (once-skip g c f h)
 
-copies-do : (g : Geometry) (c : Copy) (cs : List Copy) (f : Flash) → progress (g .ws) (f .state) ≤ c .mark
+copies-do : (g : Geometry) (c : Copy) (cs : List Copy) (f : Flash) → progress (g .state) (f .state) ≤ c .mark
     → copiesOps g (c ∷ cs) f ≡ copyOps g c f ++ copiesOps g cs (applyAll (copyOps g c f) f)
 unfolding copiesOps
 copies-do g c cs f h = ap (λ (os : List Op). os ++ copiesOps g cs (applyAll os f)) (once-do g c f h)
@@ -171,7 +171,7 @@ module _ {g : Geometry} (whole : Whole g) {N S : ℕ} {h : Flash} where
       leads : applyAll first now ≡ next
       leads = step-whole whole (leg .fits) near ∙ leg .leads
 
-      done : progress (g .ws) (now .state) ≡ m
+      done : progress (g .state) (now .state) ≡ m
       done = near-reads c now (leg .fits .image) near (leg .reads) .done
 
       cost : length first ≡ nextCost g now

@@ -35,7 +35,7 @@ returns : tie.Need-returns
 returns c =
     let a = c .before .before .before .before .before .before .before .before .before .before .before .args in
     let n = c .before .before .before .before .before .before .before .new in
-    obeyed-update (a .g) (n .result .es) (n .result .ws) (n .ensures .0) (n .ensures .1) (a .command) _ (a .active .now) (a .dfu .now)
+    obeyed-update (a .g) (n .result .sizes) (n .ensures) (a .command) _ (a .active .now) (a .dfu .now)
     (a .state .now) _ _ (c .before .before .before .before .before .command .given .1) (c .before .before .mark-updated .ensures)
 
 same-length-2 : tie.Need-same-length-2
@@ -45,7 +45,7 @@ returns-2 : tie.Need-returns-2
 returns-2 c =
     let a = c .before .before .before .before .before .before .before .before .before .before .before .args in
     let n = c .before .before .before .before .before .before .before .new in
-    obeyed-booted (a .g) (n .result .es) (n .result .ws) (n .ensures .0) (n .ensures .1) (a .command) _ (a .active .now) (a .dfu .now)
+    obeyed-booted (a .g) (n .result .sizes) (n .ensures) (a .command) _ (a .active .now) (a .dfu .now)
     (a .state .now) _ _ (c .before .before .before .before .before .command2 .given .1) (c .before .before .mark-booted .ensures)
 
 same-length-3 : tie.Need-same-length-3

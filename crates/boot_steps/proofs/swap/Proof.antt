@@ -31,7 +31,7 @@ page-size-requires : tie.Need-page-size-requires Inv-loop μ-loop
 page-size-requires c κs = tt
 
 div-page-count : tie.Need-div-page-count Inv-loop μ-loop
-div-page-count c = omega (arith, page-some _ (c .before .before .before .before .pre .numbers))
+div-page-count c = omega (arith, page-some (c .before .before .before .before .pre .numbers))
 
 loop-holds : tie.Need-loop-holds Inv-loop μ-loop
 loop-holds c =

@@ -15,7 +15,7 @@ pack-requires : tie.Need-pack-requires
 pack-requires c κs = search needs
 
 returns : tie.Need-returns
-returns c = packs _ (c .pack .ensures) (rw (c .before .before .new .ensures .0, c .before .before .new .ensures .1) at (c .before .get-state .ensures))
+returns c = packs _ (c .pack .ensures) (rw (c .before .before .new .ensures) at (c .before .get-state .ensures))
 
 pub eb-state-get-state-spec : {M : Type 1} → statement M
 eb-state-get-state-spec =

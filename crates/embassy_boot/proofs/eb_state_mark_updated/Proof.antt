@@ -18,7 +18,9 @@ same-length : tie.Need-same-length
 same-length c = search needs
 
 returns : tie.Need-returns
-returns c = let n = c .before .before .before .before .before .new .ensures in tells (rw (n .0, n .1) at (c .before .before .before .mark-updated .ensures)) (c .pack .ensures)
+returns c =
+    let m = c .before .before .before in
+    tells (rw (m .before .before .new .ensures) at (m .mark-updated .ensures)) (c .pack .ensures)
 
 pub eb-state-mark-updated-spec : {M : Type 1} → statement M
 eb-state-mark-updated-spec =

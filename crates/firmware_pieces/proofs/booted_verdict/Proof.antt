@@ -33,7 +33,7 @@ returns-2 c =
     let n = c .before .before in
     let j = n .before .before .before in
     updater-passed _ _ _ _ _ (verdict-admitted _ _ (j .updater-verdict .ensures) (n .before .enum-told .given .1))
-    (is-booted (j .before .before .args .state .now) (n .new .ensures .1) (c .before .verify-booted .ensures) (c .if1 .taken)) refl
+    (is-booted (j .before .before .args .state .now) (n .new .ensures) (c .before .verify-booted .ensures) (c .if1 .taken)) refl
 
 -- one is
 returns-3 : tie.Need-returns-3
@@ -41,7 +41,7 @@ returns-3 c =
     let n = c .before .before in
     let j = n .before .before .before in
     updater-swap _ _ _ _ _ (verdict-admitted _ _ (j .updater-verdict .ensures) (n .before .enum-told .given .1))
-    (is-pending (j .before .before .args .state .now) (n .new .ensures .1) (c .before .verify-booted .ensures) (c .if1 .left))
+    (is-pending (j .before .before .args .state .now) (n .new .ensures) (c .before .verify-booted .ensures) (c .if1 .left))
 
 pub booted-verdict-spec : {M : Type 1} → statement M
 booted-verdict-spec =

@@ -34,7 +34,7 @@ returns-2 c =
     let n = c .before .before in
     let j = n .before .before .before in
     updater-swap _ _ _ _ _ (verdict-admitted _ _ (j .updater-verdict .ensures) (n .before .enum-told .given .1))
-    (is-pending (j .before .before .args .state .now) (n .new .ensures .1) (c .before .verify-booted .ensures) (not-true _ (c .if1 .taken)))
+    (is-pending (j .before .before .args .state .now) (n .new .ensures) (c .before .verify-booted .ensures) (not-true _ (c .if1 .taken)))
 
 cast-bad-range : tie.Need-cast-bad-range
 cast-bad-range c = search needs
@@ -51,7 +51,7 @@ returns-3 c =
     let n = i .before .before in
     let j = n .before .before .before in
     updater-range _ _ _ _ _ (verdict-admitted _ _ (j .updater-verdict .ensures) (n .before .enum-told .given .1))
-    (is-booted (j .before .before .args .state .now) (n .new .ensures .1) (i .before .verify-booted .ensures) (not-false _ (i .if1 .left)))
+    (is-booted (j .before .before .args .state .now) (n .new .ensures) (i .before .verify-booted .ensures) (not-false _ (i .if1 .left)))
     (sym (c .before .bad-range .ensures) ∙ c .if2 .taken)
 
 -- no row holds
@@ -61,7 +61,7 @@ returns-4 c =
     let n = i .before .before in
     let j = n .before .before .before in
     updater-passed _ _ _ _ _ (verdict-admitted _ _ (j .updater-verdict .ensures) (n .before .enum-told .given .1))
-    (is-booted (j .before .before .args .state .now) (n .new .ensures .1) (i .before .verify-booted .ensures) (not-false _ (i .if1 .left)))
+    (is-booted (j .before .before .args .state .now) (n .new .ensures) (i .before .verify-booted .ensures) (not-false _ (i .if1 .left)))
     (sym (c .before .bad-range .ensures) ∙ c .if2 .left)
 
 pub write-verdict-spec : {M : Type 1} → statement M

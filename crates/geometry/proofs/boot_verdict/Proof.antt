@@ -32,7 +32,11 @@ uneven-areas-requires c κs = let l = limits-in _ _ _ _ (sym (c .before .before 
 
 -- src/lib.rt:90:9
 returns-3 : tie.Need-returns-3
-returns-3 c = boot-area _ _ _ _ (sym (c .before .before .before .before .before .boot-limits .ensures) ∙ c .before .before .before .before .if1 .left) (sym (c .before .before .before .uneven-page .ensures) ∙ c .before .before .if2 .left) (sym (c .before .uneven-areas .ensures) ∙ c .if3 .taken)
+returns-3 c =
+    let p = c .before .before in
+    let l = p .before .before in
+    boot-area _ _ _ _ (sym (l .before .boot-limits .ensures) ∙ l .if1 .left) (sym (p .before .uneven-page .ensures) ∙ p .if2 .left)
+    (sym (c .before .uneven-areas .ensures) ∙ c .if3 .taken)
 
 -- src/lib.rt:92:8
 bad-boot-state-requires : tie.Need-bad-boot-state-requires
@@ -40,11 +44,21 @@ bad-boot-state-requires c κs = let l = limits-in _ _ _ _ (sym (c .before .befor
 
 -- src/lib.rt:93:9
 returns-4 : tie.Need-returns-4
-returns-4 c = boot-state _ _ _ _ (sym (c .before .before .before .before .before .before .before .boot-limits .ensures) ∙ c .before .before .before .before .before .before .if1 .left) (sym (c .before .before .before .before .before .uneven-page .ensures) ∙ c .before .before .before .before .if2 .left) (sym (c .before .before .before .uneven-areas .ensures) ∙ c .before .before .if3 .left) (sym (c .before .bad-boot-state .ensures) ∙ c .if4 .taken)
+returns-4 c =
+    let a = c .before .before in
+    let p = a .before .before in
+    let l = p .before .before in
+    boot-state _ _ _ _ (sym (l .before .boot-limits .ensures) ∙ l .if1 .left) (sym (p .before .uneven-page .ensures) ∙ p .if2 .left)
+    (sym (a .before .uneven-areas .ensures) ∙ a .if3 .left) (sym (c .before .bad-boot-state .ensures) ∙ c .if4 .taken)
 
 -- src/lib.rt:80:1
 returns-5 : tie.Need-returns-5
-returns-5 c = boot-admitted _ _ _ _ (sym (c .before .before .before .before .before .before .before .boot-limits .ensures) ∙ c .before .before .before .before .before .before .if1 .left) (sym (c .before .before .before .before .before .uneven-page .ensures) ∙ c .before .before .before .before .if2 .left) (sym (c .before .before .before .uneven-areas .ensures) ∙ c .before .before .if3 .left) (sym (c .before .bad-boot-state .ensures) ∙ c .if4 .left)
+returns-5 c =
+    let a = c .before .before in
+    let p = a .before .before in
+    let l = p .before .before in
+    boot-admitted _ _ _ _ (sym (l .before .boot-limits .ensures) ∙ l .if1 .left) (sym (p .before .uneven-page .ensures) ∙ p .if2 .left)
+    (sym (a .before .uneven-areas .ensures) ∙ a .if3 .left) (sym (c .before .bad-boot-state .ensures) ∙ c .if4 .left)
 
 pub boot-verdict-spec : {M : Type 1} → statement M
 boot-verdict-spec =

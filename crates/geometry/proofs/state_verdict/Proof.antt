@@ -1,5 +1,5 @@
-use mathlib.Core.Path.{_∙_, sym}
 use Rattle.geometry.proofs.Rows.{state-limit, state-short, state-admitted, state-numbers}
+use mathlib.Core.Path.{_∙_, sym}
 use borrow.Author.Needs.{needs}
 use Rattle.geometry.proofs.state_verdict.Statement.{statement}
 use Rattle.geometry.proofs.state_verdict.Tie as tie
@@ -8,25 +8,25 @@ use Rattle.geometry.proofs.state_verdict.Lts as lts
 use Rattle.geometry.proofs.check.bad_state.Reads as bad-state-reads
 use Rattle.geometry.proofs.check.state_limits.Reads as state-limits-reads
 
--- src/lib.rt:102:8
+-- src/lib.rt:124:8
 state-limits-requires : tie.Need-state-limits-requires
 state-limits-requires c κs = search needs
 
--- src/lib.rt:103:9
+-- src/lib.rt:125:9
 returns : tie.Need-returns
-returns c = state-limit _ _ _ (sym (c .before .state-limits .ensures) ∙ c .if1 .taken)
+returns c = state-limit _ _ (sym (c .before .state-limits .ensures) ∙ c .if1 .taken)
 
--- src/lib.rt:105:8
+-- src/lib.rt:127:8
 bad-state-requires : tie.Need-bad-state-requires
-bad-state-requires c κs = state-numbers _ _ _ (sym (c .before .state-limits .ensures) ∙ c .if1 .left)
+bad-state-requires c κs = state-numbers _ _ (sym (c .before .state-limits .ensures) ∙ c .if1 .left)
 
--- src/lib.rt:106:9
+-- src/lib.rt:128:9
 returns-2 : tie.Need-returns-2
-returns-2 c = state-short _ _ _ (sym (c .before .before .before .state-limits .ensures) ∙ c .before .before .if1 .left) (sym (c .before .bad-state .ensures) ∙ c .if2 .taken)
+returns-2 c = state-short _ _ (sym (c .before .before .before .state-limits .ensures) ∙ c .before .before .if1 .left) (sym (c .before .bad-state .ensures) ∙ c .if2 .taken)
 
--- src/lib.rt:99:1
+-- src/lib.rt:121:1
 returns-3 : tie.Need-returns-3
-returns-3 c = state-admitted _ _ _ (sym (c .before .before .before .state-limits .ensures) ∙ c .before .before .if1 .left) (sym (c .before .bad-state .ensures) ∙ c .if2 .left)
+returns-3 c = state-admitted _ _ (sym (c .before .before .before .state-limits .ensures) ∙ c .before .before .if1 .left) (sym (c .before .bad-state .ensures) ∙ c .if2 .left)
 
 pub state-verdict-spec : {M : Type 1} → statement M
 state-verdict-spec =

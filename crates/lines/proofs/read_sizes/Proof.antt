@@ -34,8 +34,8 @@ array-read-t21 c = search needs
 array-read-t24 : tie.Need-array-read-t24
 array-read-t24 c = search needs
 
-array-read-t27 : tie.Need-array-read-t27
-array-read-t27 c = search needs
+array-read-t28 : tie.Need-array-read-t28
+array-read-t28 c = search needs
 
 returns-2 : tie.Need-returns-2
 unfolding sizesLine sizesOf
@@ -54,5 +54,5 @@ read-sizes-spec =
     array-read-t18
     array-read-t21
     array-read-t24
-    array-read-t27
+    array-read-t28
     returns-2)

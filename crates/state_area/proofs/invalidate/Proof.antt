@@ -6,17 +6,21 @@ use Rattle.state_area.proofs.invalidate.Reads as reads
 use Rattle.state_area.proofs.invalidate.Lts as lts
 use Rattle.mem_flash.proofs.write_word.Reads as write-word-reads
 
--- src/lib.rt:54:5
+-- src/lib.rt:102:14
+cast-ws : tie.Need-cast-ws
+cast-ws c = search needs
+
+-- src/lib.rt:103:5
 write-word-requires : tie.Need-write-word-requires
 write-word-requires c κs = search needs
 
--- src/lib.rt:51:1
+-- src/lib.rt:99:1
 same-length : tie.Need-same-length
 same-length c = search needs
 
--- src/lib.rt:51:1
+-- src/lib.rt:99:1
 returns : tie.Need-returns
-returns c = invalidated _ _ _ _ _ (c .before .before .write-word .ensures)
+returns c = invalidated _ (c .before .before .before .before .before .before .args .z) _ _ _ (c .before .before .write-word .ensures)
 
 pub invalidate-spec : {M : Type 1} → statement M
-invalidate-spec = tie.close (tie.spec write-word-requires same-length returns)
+invalidate-spec = tie.close (tie.spec cast-ws write-word-requires same-length returns)

@@ -1,52 +1,58 @@
-use mathlib.Core.Path.{_∙_, ap}
-use Rattle.state.specs.Magic.{erased, throughout}
-use Rattle.rules.specs.StateArea.{valid}
 use Rattle.state_area.proofs.Words.{least-length, second-word}
+use Rattle.rules.specs.StateArea.{valid}
+use Rattle.state.specs.Magic.{erased, throughout}
+use mathlib.Core.Path.{_∙_, ap}
 use borrow.Author.Needs.{needs}
 use Rattle.state_area.proofs.is_valid.Statement.{statement}
 use Rattle.state_area.proofs.is_valid.Tie as tie
 use Rattle.state_area.proofs.is_valid.Reads as reads
 use Rattle.state_area.proofs.is_valid.Lts as lts
+use Rattle.geometry.proofs.least.Reads as least-reads
 use Rattle.state.proofs.word.all_are.Reads as all-are-reads
-use Rattle.state_area.proofs.least.Reads as least-reads
 
--- src/lib.rt:44:9
+-- src/lib.rt:39:33
+cast-ws : tie.Need-cast-ws
+cast-ws c = search needs
+
+-- src/lib.rt:39:9
 least-requires : tie.Need-least-requires
 least-requires c κs = search needs
 
--- src/lib.rt:45:16
+-- src/lib.rt:40:16
 sub-rest : tie.Need-sub-rest
 sub-rest c = search needs
 
--- src/lib.rt:45:16
+-- src/lib.rt:40:16
 part-rest-start : tie.Need-part-rest-start
 part-rest-start c = search needs
 
--- src/lib.rt:45:16
+-- src/lib.rt:40:16
 part-rest-end : tie.Need-part-rest-end
 part-rest-end c = search needs
 
--- src/lib.rt:46:9
+-- src/lib.rt:41:9
 least-requires-2 : tie.Need-least-requires-2
 least-requires-2 c κs = search needs
 
--- src/lib.rt:47:26
+-- src/lib.rt:42:26
 slice-aggregate-all-are : tie.Need-slice-aggregate-all-are
-slice-aggregate-all-are c = least-length _ _ _ (c .before .least2 .ensures)
+slice-aggregate-all-are c = least-length _ _ (c .before .least2 .ensures)
 
--- src/lib.rt:47:5
+-- src/lib.rt:42:5
 all-are-requires : tie.Need-all-are-requires
 all-are-requires c κs = search needs
 
--- src/lib.rt:41:1
+-- src/lib.rt:36:1
 returns : tie.Need-returns
 unfolding valid erased
-returns c = c .all-are .ensures ∙ ap (throughout _) (second-word _ _ _ _ (c .before .before .before .before .least .ensures) (c .before .before .least2 .ensures))
+returns c =
+    c .all-are .ensures ∙ ap (throughout _) (second-word (c .before .before .before .before .before .before .before .args .z) _ (c .before .before .before .before .least .ensures) (c .before .before .least2 .ensures))
 
 pub is-valid-spec : {M : Type 1} → statement M
 is-valid-spec =
     tie.close
     (tie.spec
+    cast-ws
     least-requires
     sub-rest
     part-rest-start

@@ -1,30 +1,34 @@
-use mathlib.Core.Path.{_∙_, ap}
-use Rattle.state.specs.Magic.{throughout}
 use Rattle.state_area.proofs.Words.{least-length, first-word}
+use Rattle.state.specs.Magic.{throughout}
+use mathlib.Core.Path.{_∙_, ap}
 use borrow.Author.Needs.{needs}
 use Rattle.state_area.proofs.magic_is.Statement.{statement}
 use Rattle.state_area.proofs.magic_is.Tie as tie
 use Rattle.state_area.proofs.magic_is.Reads as reads
 use Rattle.state_area.proofs.magic_is.Lts as lts
+use Rattle.geometry.proofs.least.Reads as least-reads
 use Rattle.state.proofs.word.all_are.Reads as all-are-reads
-use Rattle.state_area.proofs.least.Reads as least-reads
 
--- src/lib.rt:28:9
+-- src/lib.rt:23:31
+cast-ws : tie.Need-cast-ws
+cast-ws c = search needs
+
+-- src/lib.rt:23:9
 least-requires : tie.Need-least-requires
 least-requires c κs = search needs
 
--- src/lib.rt:29:26
+-- src/lib.rt:24:26
 slice-aggregate-all-are : tie.Need-slice-aggregate-all-are
-slice-aggregate-all-are c = least-length _ _ _ (c .before .least .ensures)
+slice-aggregate-all-are c = least-length _ _ (c .before .least .ensures)
 
--- src/lib.rt:29:5
+-- src/lib.rt:24:5
 all-are-requires : tie.Need-all-are-requires
 all-are-requires c κs = search needs
 
--- src/lib.rt:25:1
+-- src/lib.rt:20:1
 returns : tie.Need-returns
-returns c = c .all-are .ensures ∙ ap (throughout _) (first-word _ _ _ (c .before .before .least .ensures))
+returns c = c .all-are .ensures ∙ ap (throughout _) (first-word (c .before .before .before .before .before .args .z) _ (c .before .before .least .ensures))
 
 pub magic-is-spec : {M : Type 1} → statement M
 magic-is-spec =
-    tie.close (tie.spec least-requires slice-aggregate-all-are all-are-requires returns)
+    tie.close (tie.spec cast-ws least-requires slice-aggregate-all-are all-are-requires returns)

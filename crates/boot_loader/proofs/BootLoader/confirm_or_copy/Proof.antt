@@ -1,13 +1,12 @@
 use mathlib.Core.Path.{refl}
 use borrow.Author.Tests.{not-true, not-false}
-use borrow.Author.Needs.{needs}
 use Rattle.geometry.proofs.Tests.{page-some}
 use Rattle.boot_loader.proofs.Boots.{boot-copies, boot-confirms}
 use Rattle.boot_loader.proofs.BootLoader.confirm_or_copy.Statement.{statement}
 use Rattle.boot_loader.proofs.BootLoader.confirm_or_copy.Tie as tie
 
 is-confirming-requires : tie.Need-is-confirming-requires
-is-confirming-requires c κs = let p = c .before .before .before .before .before .pre in (page-some _ (p .numbers), p .active-most)
+is-confirming-requires c κs = let p = c .before .before .before .before .before .pre in (page-some (p .numbers), p .active-most)
 
 swap-or-revert-requires : tie.Need-swap-or-revert-requires
 swap-or-revert-requires c κs = c .before .before .before .before .before .before .before .before .before .before .pre
@@ -27,12 +26,6 @@ returns c =
     let i = w .before .before .before .before in
     boot-copies _ (i .before .is-confirming .ensures) (not-true _ (i .if1 .taken)) (w .swap-or-revert .ensures)
 
-cast-es : tie.Need-cast-es
-cast-es c = search needs
-
-cast-ws : tie.Need-cast-ws
-cast-ws c = search needs
-
 renew-requires : tie.Need-renew-requires
 renew-requires c κs = tt
 
@@ -45,7 +38,7 @@ same-length-5 c = c .before .before .renew .kept .0
 returns-2 : tie.Need-returns-2
 returns-2 c =
     let w = c .before .before in
-    let i = w .before .before .before .before in
+    let i = w .before .before .before in
     boot-confirms _ (i .before .is-confirming .ensures) (not-false _ (i .if1 .left)) (w .renew .ensures)
 
 pub confirm-or-copy-spec : {M : Type 1} → statement M
@@ -58,8 +51,6 @@ confirm-or-copy-spec =
     same-length-2
     same-length-3
     returns
-    cast-es
-    cast-ws
     renew-requires
     same-length-4
     same-length-5

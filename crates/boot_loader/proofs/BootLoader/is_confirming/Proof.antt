@@ -5,9 +5,6 @@ use Rattle.boot_loader.proofs.Boots.{counts-still, swap-unfinished, rev
 use Rattle.boot_loader.proofs.BootLoader.is_confirming.Statement.{statement}
 use Rattle.boot_loader.proofs.BootLoader.is_confirming.Tie as tie
 
-cast-ws : tie.Need-cast-ws
-cast-ws c = search needs
-
 is-valid-requires : tie.Need-is-valid-requires
 is-valid-requires c κs = tt
 
@@ -24,7 +21,7 @@ marks-done-requires : tie.Need-marks-done-requires
 marks-done-requires c κs = tt
 
 mul-if2 : tie.Need-mul-if2
-mul-if2 c = record { fits = counts-fit _ _ (c .before .before .before .before .before .before .before .before .pre .1) .0 }
+mul-if2 c = record { fits = counts-fit _ _ (c .before .before .before .before .before .before .before .pre .1) .0 }
 
 returns-2 : tie.Need-returns-2
 unfolding pages
@@ -34,7 +31,7 @@ returns-2 c =
     swap-unfinished _ _ _ (sym (i .before .is-valid .ensures) ∙ i .if1 .left) _ (m .marks-done .ensures) (rw (m .before .page-size .ensures) at (c .if2 .taken))
 
 mul-result : tie.Need-mul-result
-mul-result c = record { fits = counts-fit _ _ (c .before .before .before .before .before .before .before .before .before .pre .1) .1 }
+mul-result c = record { fits = counts-fit _ _ (c .before .before .before .before .before .before .before .before .pre .1) .1 }
 
 returns-3 : tie.Need-returns-3
 unfolding pages
@@ -48,7 +45,6 @@ pub is-confirming-spec : {M : Type 1} → statement M
 is-confirming-spec =
     tie.close
     (tie.spec
-    cast-ws
     is-valid-requires
     returns
     page-size-requires

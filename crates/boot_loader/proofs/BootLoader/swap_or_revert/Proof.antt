@@ -1,6 +1,5 @@
 use mathlib.Core.Path.{_∙_}
 use borrow.Author.Tests.{not-true, not-false}
-use borrow.Author.Needs.{needs}
 use Rattle.geometry.proofs.Tests.{page-some}
 use Rattle.mem_flash.specs.Run.{flash}
 use Rattle.boot_loader.proofs.Boots.{Reverted, reverted, boot-swap, revert-cut, invalid-cut, boot-revert}
@@ -9,10 +8,10 @@ use Rattle.boot_loader.proofs.BootLoader.swap_or_revert.Tie as tie
 
 -- from the invalidation back to the revert
 abbrev before-it : tie.After-invalidate → tie.After-revert
-before-it i = i .before .before .before .before .before .before .before .before .before .before .before .before .before
+before-it i = i .before .before .before .before .before .before .before .before .before .before .before
 
 is-swapped-requires : tie.Need-is-swapped-requires
-is-swapped-requires c κs = page-some _ (c .before .before .before .before .before .before .pre .numbers)
+is-swapped-requires c κs = page-some (c .before .before .before .before .before .before .pre .numbers)
 
 swap-requires : tie.Need-swap-requires
 swap-requires c κs = c .before .before .before .before .before .before .before .before .before .before .before .pre
@@ -61,12 +60,6 @@ ran c =
 returns-2 : tie.Need-returns-2
 returns-2 c = revert-cut (ran (c .before .before .before .before .before .before .before .before)) (c .enum-told .given .1)
 
-cast-es : tie.Need-cast-es
-cast-es c = search needs
-
-cast-ws : tie.Need-cast-ws
-cast-ws c = search needs
-
 invalidate-requires : tie.Need-invalidate-requires
 invalidate-requires c κs = tt
 
@@ -88,7 +81,7 @@ same-length-9 c = let i = c .before .before .before .before in i .invalidate .ke
 returns-3 : tie.Need-returns-3
 returns-3 c =
     let i = c .before .before .before .before in
-    let o = i .before .before .before .before .before in
+    let o = i .before .before .before in
     invalid-cut (ran (before-it i)) (o .second .given .1) (i .invalidate .ensures) (c .enum-told2 .given .1)
 
 renew-requires : tie.Need-renew-requires
@@ -110,7 +103,7 @@ returns-4 c =
     let n = c .before .before in
     let t = n .before .before .before in
     let i = t .before .before .before .before in
-    let o = i .before .before .before .before .before in
+    let o = i .before .before .before in
     let r = before-it i in
     boot-revert (ran r) (o .second .given .1) (i .invalidate .ensures) (t .third .given .1) (i .invalidate .kept .0 ∙ r .revert .kept .1 .1 .1 .0) (n .renew .ensures)
 
@@ -131,8 +124,6 @@ swap-or-revert-spec =
     same-length-5
     same-length-6
     returns-2
-    cast-es
-    cast-ws
     invalidate-requires
     enum-known-third
     enum-told-2

@@ -1,3 +1,4 @@
+-- Each answer ends in `cc`, which proves a weaker clause as well: must-fail/get_state_number_only is refused by proofs/Unique.
 use mathlib.Core.Path.{refl, ap, sym}
 use mathlib.Core.Option.{some}
 use mathlib.Core.List.{[]}
@@ -23,14 +24,14 @@ enum-known-judged c = search needs
 -- src/lib.rt:245:13
 returns : tie.Need-returns
 unfolding getState
-returns c = let a = c .before .before .before .before .before .args in did-refused (getState (a .self .es) (a .self .ws) (a .state .now)) 0 (flash [] [] []) _ _ (c .before .before .before .state-verdict .ensures) (c .before .judged .given .1) .answer
+returns c =
+    let a = c .before .before .before .before .before .args in
+    let d = did-refused (getState (a .self .sizes) (a .state .now)) 0 (flash [] [] []) _ _
+    (c .before .before .before .state-verdict .ensures) (c .before .judged .given .1) in
+    (let e = d .answer in cc)
 
 enum-told : tie.Need-enum-told
 enum-told c = search needs
-
--- src/lib.rt:247:47
-cast-read : tie.Need-cast-read
-cast-read c = search needs
 
 -- src/lib.rt:247:23
 read-requires : tie.Need-read-requires
@@ -39,7 +40,12 @@ read-requires c κs = search needs
 -- src/lib.rt:240:5
 returns-2 : tie.Need-returns-2
 unfolding getState
-returns-2 c = let a = c .before .before .before .before .before .before .args in did-nothing (getState (a .self .es) (a .self .ws) (a .state .now)) 0 (flash [] [] []) (verdict-admitted _ _ (c .before .before .before .before .state-verdict .ensures) (c .before .before .enum-told .given .1)) _ (ap some (sym (c .read .ensures))) refl .answer
+returns-2 c =
+    let a = c .before .before .before .before .before .args in
+    let passed = verdict-admitted _ _ (c .before .before .before .state-verdict .ensures) (c .before .enum-told .given .1) in
+    let d = did-nothing (getState (a .self .sizes) (a .state .now)) 0 (flash [] [] []) passed _
+    (ap some (sym (c .read .ensures))) refl in
+    (let e = d .answer in cc)
 
 pub get-state-spec : {M : Type 1} → statement M
 get-state-spec =
@@ -49,6 +55,5 @@ get-state-spec =
     enum-known-judged
     returns
     enum-told
-    cast-read
     read-requires
     returns-2)

@@ -45,7 +45,12 @@ same-length c = search needs
 
 -- src/lib.rt:283:13
 returns-2 : tie.Need-returns-2
-returns-2 c = λ k a d e s x. let g = c .before .before .before .before .before .before .before .before .before .before .args in mark-cut k _ _ _ a d _ _ _ e (c .before .before .before .before .before .before .before .enum-told .given .1) s (x ∙ ap (λ m. setMagicOps (g .self .es) (g .self .ws) m (g .state .now)) (sym (c .before .before .before .before .before .magic .ensures))) (c .before .before .before .before .set-magic .ensures) (c .enum-told2 .given .1)
+returns-2 c =
+    λ k a d e s x.
+    let w = c .before .before .before .before in
+    let g = w .before .before .before .before .before .before .args in
+    let m = ap (λ m. setMagicOps (g .self .sizes) m (g .state .now)) (sym (w .before .magic .ensures)) in
+    mark-cut k _ _ _ a d _ _ _ e (w .before .before .before .enum-told .given .1) s (x ∙ m) (w .set-magic .ensures) (c .enum-told2 .given .1)
 
 -- src/lib.rt:285:22
 sub-t13 : tie.Need-sub-t13
@@ -57,7 +62,12 @@ same-length-2 c = search needs
 
 -- src/lib.rt:275:5
 returns-3 : tie.Need-returns-3
-returns-3 c = λ k a d e s x. let g = c .before .before .before .before .before .before .before .before .before .before .before .before .args in mark-done k _ _ _ a d _ _ _ e (c .before .before .before .before .before .before .before .before .before .enum-told .given .1) s (x ∙ ap (λ m. setMagicOps (g .self .es) (g .self .ws) m (g .state .now)) (sym (c .before .before .before .before .before .before .before .magic .ensures))) (c .before .before .before .before .before .before .set-magic .ensures) _ (c .before .before .rest .given .1)
+returns-3 c =
+    λ k a d e s x.
+    let w = c .before .before .before .before .before .before in
+    let g = w .before .before .before .before .before .before .args in
+    let m = ap (λ m. setMagicOps (g .self .sizes) m (g .state .now)) (sym (w .before .magic .ensures)) in
+    mark-done k _ _ _ a d _ _ _ e (w .before .before .before .enum-told .given .1) s (x ∙ m) (w .set-magic .ensures) _ (c .before .before .rest .given .1)
 
 pub mark-spec : {M : Type 1} → statement M
 mark-spec =

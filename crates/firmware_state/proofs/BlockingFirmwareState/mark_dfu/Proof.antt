@@ -25,7 +25,9 @@ same-length c = search needs
 -- src/lib.rt:259:5
 returns : tie.Need-returns
 unfolding mark
-returns c = let a = c .before .before .before .before .before .before .args in c .before .before .mark .ensures (mark DfuDetach (a .self .es) (a .self .ws) (a .state .now)) [] [] (c .before .before .before .before .state-verdict .ensures) refl refl
+returns c =
+    let a = c .before .before .before .before .before .before .args in
+    c .before .before .mark .ensures (mark DfuDetach (a .self .sizes) (a .state .now)) [] [] (c .before .before .before .before .state-verdict .ensures) refl refl
 
 pub mark-dfu-spec : {M : Type 1} → statement M
 mark-dfu-spec = tie.close (tie.spec state-verdict-requires mark-requires same-length returns)

@@ -25,7 +25,9 @@ same-length c = search needs
 -- src/lib.rt:251:5
 returns : tie.Need-returns
 unfolding mark
-returns c = let a = c .before .before .before .before .before .before .args in c .before .before .mark .ensures (mark Swap (a .self .es) (a .self .ws) (a .state .now)) [] [] (c .before .before .before .before .state-verdict .ensures) refl refl
+returns c =
+    let a = c .before .before .before .before .before .before .args in
+    c .before .before .mark .ensures (mark Swap (a .self .sizes) (a .state .now)) [] [] (c .before .before .before .before .state-verdict .ensures) refl refl
 
 pub mark-updated-spec : {M : Type 1} → statement M
 mark-updated-spec = tie.close (tie.spec state-verdict-requires mark-requires same-length returns)

@@ -10,13 +10,6 @@ use Rattle.state_area.proofs.is_valid.Reads as is-valid-reads
 use Rattle.state_area.proofs.magic_is.Reads as magic-is-reads
 use Rattle.state_area.proofs.renew.Reads as renew-reads
 
--- src/lib.rt:292:18
-cast-es : tie.Need-cast-es
-cast-es c = search needs
-
-cast-ws : tie.Need-cast-ws
-cast-ws c = search needs
-
 -- src/lib.rt:293:12
 magic-is-requires : tie.Need-magic-is-requires
 magic-is-requires c κs = search needs
@@ -27,7 +20,7 @@ same-length c = search needs
 
 -- src/lib.rt:294:13
 returns : tie.Need-returns
-returns c = magic-there _ _ _ 0 _ _ (sym (c .before .magic-is .ensures) ∙ c .if1 .taken)
+returns c = magic-there _ _ _ _ (sym (c .before .magic-is .ensures) ∙ c .if1 .taken)
 
 -- src/lib.rt:296:12
 is-valid-requires : tie.Need-is-valid-requires
@@ -51,7 +44,11 @@ same-length-2 c = search needs
 
 -- src/lib.rt:298:17
 returns-2 : tie.Need-returns-2
-returns-2 c = magic-cut _ _ _ _ _ (sym (c .before .before .before .before .before .before .before .before .before .before .magic-is .ensures) ∙ c .before .before .before .before .before .before .before .before .before .if1 .left) (sym (c .before .before .before .before .before .before .before .is-valid .ensures) ∙ c .before .before .before .before .before .before .if2 .taken) _ _ (c .before .before .before .before .invalidate .ensures) (c .enum-told .given .1)
+returns-2 c =
+    let v = c .before .before .before .before .before .before in
+    let m = v .before .before .before in
+    magic-cut _ _ _ (sym (m .before .magic-is .ensures) ∙ m .if1 .left) _ (sym (v .before .is-valid .ensures) ∙ v .if2 .taken)
+    _ _ (c .before .before .before .before .invalidate .ensures) (c .enum-told .given .1)
 
 -- src/lib.rt:300:13
 renew-requires : tie.Need-renew-requires
@@ -63,7 +60,12 @@ same-length-3 c = search needs
 
 -- src/lib.rt:300:13
 returns-3 : tie.Need-returns-3
-returns-3 c = magic-on _ _ _ _ _ (sym (c .before .before .before .before .before .before .before .before .before .before .before .before .before .before .before .magic-is .ensures) ∙ c .before .before .before .before .before .before .before .before .before .before .before .before .before .before .if1 .left) (sym (c .before .before .before .before .before .before .before .before .before .before .before .before .is-valid .ensures) ∙ c .before .before .before .before .before .before .before .before .before .before .before .if2 .taken) _ _ (c .before .before .before .before .before .before .before .before .before .invalidate .ensures) _ _ _ (c .before .before .before .before .before .rest .given .1) (c .before .before .before .before .before .before .before .before .before .invalidate .kept .0) (c .before .before .renew .ensures)
+returns-3 c =
+    let i = c .before .before .before .before .before .before .before .before .before in
+    let v = i .before .before in
+    let m = v .before .before .before in
+    magic-on _ _ _ (sym (m .before .magic-is .ensures) ∙ m .if1 .left) _ (sym (v .before .is-valid .ensures) ∙ v .if2 .taken)
+    _ _ (i .invalidate .ensures) _ _ _ (c .before .before .before .before .before .rest .given .1) (i .invalidate .kept .0) (c .before .before .renew .ensures)
 
 -- src/lib.rt:302:9
 renew-requires-2 : tie.Need-renew-requires-2
@@ -75,14 +77,16 @@ same-length-4 c = search needs
 
 -- src/lib.rt:289:5
 returns-4 : tie.Need-returns-4
-returns-4 c = magic-renew _ _ _ _ _ (sym (c .before .before .before .before .before .before .before .before .magic-is .ensures) ∙ c .before .before .before .before .before .before .before .if1 .left) _ _ (sym (c .before .before .before .before .before .is-valid .ensures) ∙ c .before .before .before .before .if2 .left) (c .before .before .renew2 .ensures)
+returns-4 c =
+    let v = c .before .before .before .before in
+    let m = v .before .before .before in
+    magic-renew _ _ _ (sym (m .before .magic-is .ensures) ∙ m .if1 .left) _ _ _ (sym (v .before .is-valid .ensures) ∙ v .if2 .left)
+    (c .before .before .renew2 .ensures)
 
 pub set-magic-spec : {M : Type 1} → statement M
 set-magic-spec =
     tie.close
     (tie.spec
-    cast-es
-    cast-ws
     magic-is-requires
     same-length
     returns

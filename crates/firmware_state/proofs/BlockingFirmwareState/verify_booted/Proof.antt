@@ -9,10 +9,6 @@ use Rattle.firmware_state.proofs.BlockingFirmwareState.verify_booted.Re
 use Rattle.firmware_state.proofs.BlockingFirmwareState.verify_booted.Lts as lts
 use Rattle.state_area.proofs.read.Reads as read-reads
 
--- src/lib.rt:231:45
-cast-read : tie.Need-cast-read
-cast-read c = search needs
-
 -- src/lib.rt:231:13
 read-requires : tie.Need-read-requires
 read-requires c κs = search needs
@@ -36,28 +32,27 @@ enum-told-4 c = search needs
 -- src/lib.rt:228:5
 returns : tie.Need-returns
 unfolding isSwap
-returns c = booted-is _ _ _ _ (c .before .before .read .ensures) (c .enum-told .given .1)
+returns c = booted-is _ _ (c .before .before .read .ensures) (c .enum-told .given .1)
 
 -- src/lib.rt:228:5
 returns-2 : tie.Need-returns-2
 unfolding isSwap
-returns-2 c = booted-is _ _ _ _ (c .before .before .read .ensures) (c .enum-told2 .given .1)
+returns-2 c = booted-is _ _ (c .before .before .read .ensures) (c .enum-told2 .given .1)
 
 -- src/lib.rt:228:5
 returns-3 : tie.Need-returns-3
 unfolding isSwap
-returns-3 c = booted-is _ _ _ _ (c .before .before .read .ensures) (c .enum-told3 .given .1)
+returns-3 c = booted-is _ _ (c .before .before .read .ensures) (c .enum-told3 .given .1)
 
 -- src/lib.rt:228:5
 returns-4 : tie.Need-returns-4
 unfolding isSwap
-returns-4 c = booted-is _ _ _ _ (c .before .before .read .ensures) (c .enum-told4 .given .1)
+returns-4 c = booted-is _ _ (c .before .before .read .ensures) (c .enum-told4 .given .1)
 
 pub verify-booted-spec : {M : Type 1} → statement M
 verify-booted-spec =
     tie.close
     (tie.spec
-    cast-read
     read-requires
     enum-told
     enum-told-2

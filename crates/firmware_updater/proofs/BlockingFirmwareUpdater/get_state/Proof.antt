@@ -26,16 +26,13 @@ returns c =
 enum-told : tie.Need-enum-told
 enum-told c = search needs
 
-cast-read : tie.Need-cast-read
-cast-read c = search needs
-
 read-requires : tie.Need-read-requires
 read-requires c κs = search needs
 
 returns-2 : tie.Need-returns-2
 unfolding updaterGetState updaterCall
 returns-2 c =
-    let t = c .before .before in
+    let t = c .before in
     let j = t .before .before in
     let a = j .before .before .before .before .args in
     did-nothing (updaterGetState (a .self .sizes) (flash [] (a .dfu .now) (a .state .now))) 0 (flash [] [] [])
@@ -49,6 +46,5 @@ get-state-spec =
     enum-known-judged
     returns
     enum-told
-    cast-read
     read-requires
     returns-2)

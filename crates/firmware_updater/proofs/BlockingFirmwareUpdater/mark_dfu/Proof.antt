@@ -24,7 +24,7 @@ returns c =
     let m = c .before .before in
     let j = m .before .before .before in
     let a = j .before .before .before .before .args in
-    marked DfuDetach (pending (a .self .sizes .ws) (a .state .now)) (a .self .sizes) (a .dfu .now) (a .state .now) _ _ (m .mark .ensures) (m .before .before .state .ensures) (j .booted-verdict .ensures)
+    marked DfuDetach (pending (a .self .sizes .state) (a .state .now)) (a .self .sizes) (a .dfu .now) (a .state .now) _ _ (m .mark .ensures) (m .before .before .state .ensures) (j .booted-verdict .ensures)
 
 pub mark-dfu-spec : {M : Type 1} → statement M
 mark-dfu-spec =

@@ -1,4 +1,5 @@
--- `read_dfu`: the verdict's refusal, row 6, or the copy. Assumes nothing.
+-- `read_dfu`: the verdict's refusal, row 6, or the copy. Each answer ends in `cc`, which proves a weaker clause as well,
+-- so that a weakened contract is refused where its meaning is missed: in proofs/Unique (must-fail/read_length_only). Assumes nothing.
 use mathlib.Core.Path.{refl, sym, _∙_}
 use borrow.Author.Tests.{ltb-false}
 use Rattle.geometry.proofs.Rows.{updater-range, updater-passed}
@@ -20,8 +21,9 @@ returns : tie.Need-returns
 returns c =
     let j = c .before .before .before in
     let a = j .before .before .before .before .args in
-    read-refused (a .self .sizes) (a .offset) (a .buf .now) (a .dfu .now) (a .state .now)
-    (early-refusal _ _ _ _ _ _ _ (j .updater-verdict .ensures) (c .before .judged .given .1)) refl
+    let d = read-refused (a .self .sizes) (a .offset) (a .buf .now) (a .dfu .now) (a .state .now)
+    (early-refusal _ _ _ _ _ _ _ (j .updater-verdict .ensures) (c .before .judged .given .1)) refl in
+    (d .0, (let e = d .1 in cc))
 
 enum-told : tie.Need-enum-told
 enum-told c = search needs
@@ -34,9 +36,10 @@ returns-2 c =
     let t = c .before .before in
     let j = t .before .before in
     let a = j .before .before .before .before .args in
-    read-refused (a .self .sizes) (a .offset) (a .buf .now) (a .dfu .now) (a .state .now)
+    let d = read-refused (a .self .sizes) (a .offset) (a .buf .now) (a .dfu .now) (a .state .now)
     (updater-range _ _ _ _ _ (verdict-admitted _ _ (j .updater-verdict .ensures) (t .enum-told .given .1)) refl
-    (sym (c .before .past-end .ensures) ∙ c .if1 .taken)) refl
+    (sym (c .before .past-end .ensures) ∙ c .if1 .taken)) refl in
+    (d .0, (let e = d .1 in cc))
 
 copy-out-requires : tie.Need-copy-out-requires
 unfolding pastEnd
@@ -51,9 +54,10 @@ returns-3 c =
     let t = i .before .before in
     let j = t .before .before in
     let a = j .before .before .before .before .args in
-    read-done (a .self .sizes) (a .offset) (a .buf .now) (a .dfu .now) (a .state .now)
+    let d = read-done (a .self .sizes) (a .offset) (a .buf .now) (a .dfu .now) (a .state .now)
     (updater-passed _ _ _ _ _ (verdict-admitted _ _ (j .updater-verdict .ensures) (t .enum-told .given .1)) refl
-    (sym (i .before .past-end .ensures) ∙ i .if1 .left)) refl (c .before .before .copy-out .ensures)
+    (sym (i .before .past-end .ensures) ∙ i .if1 .left)) refl (c .before .before .copy-out .ensures) in
+    (d .0, (let e = d .1 in cc))
 
 pub read-dfu-spec : {M : Type 1} → statement M
 read-dfu-spec =

@@ -1,6 +1,5 @@
 use mathlib.Core.Path.{_∙_, sym}
 use Rattle.geometry.proofs.Tests.{any-one}
-use borrow.Author.Needs.{needs}
 use Rattle.geometry.proofs.check.last.Statement.{statement}
 use Rattle.geometry.proofs.check.last.Tie as tie
 use Rattle.geometry.proofs.check.last.Reads as reads

@@ -1,6 +1,5 @@
 use mathlib.Core.Path.{_∙_, sym}
 use Rattle.geometry.proofs.Tests.{any-first, any-later}
-use borrow.Author.Needs.{needs}
 use Rattle.geometry.proofs.check.or.Statement.{statement}
 use Rattle.geometry.proofs.check.or.Tie as tie
 use Rattle.geometry.proofs.check.or.Reads as reads

@@ -1,6 +1,5 @@
 use mathlib.Core.Path.{refl}
 use Rattle.geometry.specs.Refusals.{tooLong, mostLength}
-use borrow.Author.Needs.{needs}
 use Rattle.geometry.proofs.check.too_long.Statement.{statement}
 use Rattle.geometry.proofs.check.too_long.Tie as tie
 use Rattle.geometry.proofs.check.too_long.Reads as reads

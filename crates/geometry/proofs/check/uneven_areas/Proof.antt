@@ -18,16 +18,16 @@ page-size-requires c κs = search needs
 
 -- src/check.rt:91:8
 uneven-requires : tie.Need-uneven-requires
-uneven-requires c κs = omega (arith, page-some _ (c .before .pre .0))
+uneven-requires c κs = omega (arith, page-some (c .before .pre .0))
 
 -- src/check.rt:91:26
 uneven-requires-2 : tie.Need-uneven-requires-2
-uneven-requires-2 c κs = omega (arith, page-some _ (c .before .before .pre .0))
+uneven-requires-2 c κs = omega (arith, page-some (c .before .before .pre .0))
 
 -- src/check.rt:91:51
 add-last : tie.Need-add-last
 unfolding mostNumber mostLength
-add-last c = record { fits = omega (arith, page-most _ (c .before .before .before .pre .0)) }
+add-last c = record { fits = omega (arith, page-most (c .before .before .before .pre .0)) }
 
 -- src/check.rt:91:41
 last-requires : tie.Need-last-requires
@@ -44,7 +44,9 @@ or-requires-2 c κs = search needs
 -- src/check.rt:86:1
 returns : tie.Need-returns
 unfolding unevenAreas
-returns c = rw (← c .before .before .before .before .before .page-size .ensures) (c .or2 .ensures _ _ (c .before .before .before .before .uneven .ensures) (c .before .or .ensures _ _ (c .before .before .before .uneven2 .ensures) (c .before .before .last .ensures _ refl)))
+returns c =
+    rw (← c .before .before .before .before .before .page-size .ensures)
+    (c .or2 .ensures _ _ (c .before .before .before .before .uneven .ensures) (c .before .or .ensures _ _ (c .before .before .before .uneven2 .ensures) (c .before .before .last .ensures _ refl)))
 
 pub uneven-areas-spec : {M : Type 1} → statement M
 uneven-areas-spec =

@@ -1,5 +1,5 @@
-use mathlib.Core.Path.{refl}
 use Rattle.geometry.specs.Refusals.{unevenPage}
+use mathlib.Core.Path.{refl}
 use borrow.Author.Needs.{needs}
 use Rattle.geometry.proofs.check.uneven_page.Statement.{statement}
 use Rattle.geometry.proofs.check.uneven_page.Tie as tie
@@ -10,98 +10,105 @@ use Rattle.geometry.proofs.check.last.Reads as last-reads
 use Rattle.geometry.proofs.check.or.Reads as or-reads
 use Rattle.geometry.proofs.check.uneven.Reads as uneven-reads
 
--- src/check.rt:73:9
+-- src/check.rt:88:9
 page-size-requires : tie.Need-page-size-requires
 page-size-requires c κs = search needs
 
--- src/check.rt:74:13
+-- src/check.rt:89:13
 cast-b : tie.Need-cast-b
 cast-b c = search needs
 
--- src/check.rt:75:14
+-- src/check.rt:90:14
 cast-wa : tie.Need-cast-wa
 cast-wa c = search needs
 
--- src/check.rt:76:14
+-- src/check.rt:91:14
 cast-wd : tie.Need-cast-wd
 cast-wd c = search needs
 
--- src/check.rt:77:20
+-- src/check.rt:92:14
+cast-ws : tie.Need-cast-ws
+cast-ws c = search needs
+
+-- src/check.rt:93:20
 uneven-requires : tie.Need-uneven-requires
 uneven-requires c κs = search needs
 
--- src/check.rt:77:38
+-- src/check.rt:93:38
 uneven-requires-2 : tie.Need-uneven-requires-2
 uneven-requires-2 c κs = search needs
 
--- src/check.rt:77:62
-cast-last : tie.Need-cast-last
-cast-last c = search needs
-
--- src/check.rt:77:53
+-- src/check.rt:93:53
 last-requires : tie.Need-last-requires
 last-requires c κs = search needs
 
--- src/check.rt:77:35
+-- src/check.rt:93:35
 or-requires : tie.Need-or-requires
 or-requires c κs = search needs
 
--- src/check.rt:77:9
+-- src/check.rt:93:9
 or-requires-2 : tie.Need-or-requires-2
 or-requires-2 c κs = search needs
 
--- src/check.rt:78:21
+-- src/check.rt:94:21
 uneven-requires-3 : tie.Need-uneven-requires-3
 uneven-requires-3 c κs = search needs
 
--- src/check.rt:78:39
+-- src/check.rt:94:39
 uneven-requires-4 : tie.Need-uneven-requires-4
 uneven-requires-4 c κs = search needs
 
--- src/check.rt:78:57
+-- src/check.rt:94:57
 uneven-requires-5 : tie.Need-uneven-requires-5
 uneven-requires-5 c κs = search needs
 
--- src/check.rt:78:54
+-- src/check.rt:94:54
 or-requires-3 : tie.Need-or-requires-3
 or-requires-3 c κs = search needs
 
--- src/check.rt:78:36
+-- src/check.rt:94:36
 or-requires-4 : tie.Need-or-requires-4
 or-requires-4 c κs = search needs
 
--- src/check.rt:78:9
+-- src/check.rt:94:9
 or-requires-5 : tie.Need-or-requires-5
 or-requires-5 c κs = search needs
 
--- src/check.rt:80:19
+-- src/check.rt:96:19
 cast-uneven : tie.Need-cast-uneven
 cast-uneven c = search needs
 
--- src/check.rt:80:9
+-- src/check.rt:96:9
 uneven-requires-6 : tie.Need-uneven-requires-6
-uneven-requires-6 c κs = search needs
+uneven-requires-6 c κs = c .before .before .before .before .before .before .before .before .before .before .before .before .before .before .before .before .before .pre .ea .some
 
--- src/check.rt:81:22
+-- src/check.rt:97:22
 cast-uneven-2 : tie.Need-cast-uneven-2
 cast-uneven-2 c = search needs
 
--- src/check.rt:81:12
+-- src/check.rt:97:12
 uneven-requires-7 : tie.Need-uneven-requires-7
 uneven-requires-7 c κs = c .before .before .before .before .before .before .before .before .before .before .before .before .before .before .before .before .before .before .before .pre .ed .some
 
--- src/check.rt:81:9
+-- src/check.rt:97:9
 or-requires-6 : tie.Need-or-requires-6
 or-requires-6 c κs = search needs
 
--- src/check.rt:79:5
+-- src/check.rt:95:5
 or-requires-7 : tie.Need-or-requires-7
 or-requires-7 c κs = search needs
 
--- src/check.rt:69:1
+-- src/check.rt:84:1
 returns : tie.Need-returns
 unfolding unevenPage
-returns c = rw (← c .before .before .before .before .before .before .before .before .before .before .before .before .before .before .before .before .before .before .before .before .before .page-size .ensures) (c .or7 .ensures _ _ (c .before .before .before .before .uneven6 .ensures) (c .before .or6 .ensures _ _ (c .before .before .uneven7 .ensures) (c .before .before .before .before .before .before .or5 .ensures _ _ (c .before .before .before .before .before .before .before .before .before .before .before .uneven3 .ensures) (c .before .before .before .before .before .before .before .or4 .ensures _ _ (c .before .before .before .before .before .before .before .before .before .before .uneven4 .ensures) (c .before .before .before .before .before .before .before .before .or3 .ensures _ _ (c .before .before .before .before .before .before .before .before .before .uneven5 .ensures) (c .before .before .before .before .before .before .before .before .before .before .before .before .or2 .ensures _ _ (c .before .before .before .before .before .before .before .before .before .before .before .before .before .before .before .before .before .uneven .ensures) (c .before .before .before .before .before .before .before .before .before .before .before .before .before .or .ensures _ _ (c .before .before .before .before .before .before .before .before .before .before .before .before .before .before .before .before .uneven2 .ensures) (c .before .before .before .before .before .before .before .before .before .before .before .before .before .before .last .ensures _ refl))))))))
+returns c =
+    let w = c .before .before .before .before .before .before in
+    let k = w .before .before .before .before .before .before in
+    let chunk = k .or2 .ensures _ _ (k .before .before .before .before .uneven .ensures) (k .before .or .ensures _ _ (k .before .before .before .uneven2 .ensures) (k .before .before .last .ensures _ refl)) in
+    let page = w .before .before .or3 .ensures _ _ (w .before .before .before .uneven5 .ensures) chunk in
+    let writes = w .or5 .ensures _ _ (w .before .before .before .before .before .uneven3 .ensures) (w .before .or4 .ensures _ _ (w .before .before .before .before .uneven4 .ensures) page) in
+    rw (← k .before .before .before .before .before .before .before .before .before .page-size .ensures)
+    (c .or7 .ensures _ _ (c .before .before .before .before .uneven6 .ensures) (c .before .or6 .ensures _ _ (c .before .before .uneven7 .ensures) writes))
 
 pub uneven-page-spec : {M : Type 1} → statement M
 uneven-page-spec =
@@ -111,9 +118,9 @@ uneven-page-spec =
     cast-b
     cast-wa
     cast-wd
+    cast-ws
     uneven-requires
     uneven-requires-2
-    cast-last
     last-requires
     or-requires
     or-requires-2

@@ -54,7 +54,10 @@ loop-less c = search needs
 
 -- src/search.rt:33:5
 loop-again : tie.Need-loop-again Inv-loop μ-loop
-loop-again c = let a = c .before .before .before .before .before .before .args in (search needs, lacks-more (a .value) _ _ (a .bytes .now) (search needs) (c .before .before .before .before .loop .inv .1) (sym (c .before .block-has .ensures) ∙ c .if1 .left))
+loop-again c =
+    let a = c .before .before .before .before .before .before .args in
+    let lacks = c .before .before .before .before .loop .inv .1 in
+    (search needs, lacks-more (a .value) _ _ (a .bytes .now) (search needs) lacks (sym (c .before .block-has .ensures) ∙ c .if1 .left))
 
 -- src/search.rt:28:1
 returns-2 : tie.Need-returns-2 Inv-loop μ-loop
