@@ -36,9 +36,9 @@ filled g c f k xs xs₁ read h e x y there w =
 
 -- ---- the three ways out of a step
 
-pub once-skip : (g : Geometry) (c : Copy) (f : Flash) (k : ℕ) {m : ℕ} → m ≡ progress (g .state) (f .state) → c .mark < m → Ran k (onceOps g c f) f f (on k)
+pub once-skipped : (g : Geometry) (c : Copy) (f : Flash) (k : ℕ) {m : ℕ} → m ≡ progress (g .state) (f .state) → c .mark < m → Ran k (onceOps g c f) f f (on k)
 unfolding onceOps pick run
-once-skip g c f k read h = let z = rw read at h in ran _ _ _ _ _ (rw (lt-leb _ _ z))
+once-skipped g c f k read h = let z = rw read at h in ran _ _ _ _ _ (rw (lt-leb _ _ z))
 
 module _ {g : Geometry} {c : Copy} {f : Flash} {k : ℕ} {f₁ : Flash} {r : Flow} (w : Filled g c f k f₁ r) where
   pub once-cut : r ≡ Cut → Ran k (onceOps g c f) f f₁ Cut

@@ -50,13 +50,13 @@ refused n {v} {w} e o =
 -- ---- the marks
 
 -- what `does` is the firmware state's mark, whose sizes y are the updater's
-pub marked : (m : State) (swap : Bool) (z : Sizes) {k : ℕ} {y : StateSizes} (d s s′ : List ℕ) (v : Verdict) {r : Answer}
+pub mark-did : (m : State) (swap : Bool) (z : Sizes) {k : ℕ} {y : StateSizes} (d s s′ : List ℕ) (v : Verdict) {r : Answer}
     → ((c : Call) (a d : List ℕ) → verdict v ≡ c .refusal → c .state ≡ none → c .ops ≡ setMagicOps y (magic m) s
     → Did c k (flash a d s) (flash a d s′) r)
     → y ≡ z .state → verdict v ≡ updaterRefusal z (length d) (length s) swap false
     → Did (updaterMark m swap z (flash [] d s)) k (flash [] d s) (flash [] d s′) r
 unfolding updaterMark updaterCall
-marked m swap z d s s′ v does same e =
+mark-did m swap z d s s′ v does same e =
     does (updaterMark m swap z (flash [] d s)) [] d e refl (ap (λ i. setMagicOps i (magic m) s) (sym same))
 
 -- ---- read_dfu: the answer, and what the buffer `out` holds then

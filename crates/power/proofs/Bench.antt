@@ -13,7 +13,7 @@ use Rattle.rules.specs.Calls.{report, left}
 use Rattle.rules.specs.Boot.{renewOps, finishOps, swapOrRevertOps, confirming, bootOpsIn, bootOps, prepareBoot}
 use Rattle.rules.specs.FirmwareState.{setMagicOps, mark}
 use Rattle.rules.specs.Power.{magicArea, Fresh, swapMarks, swapTable, pageAt, withPage, revertImages, reverted, revertMarks, revertedPart, revertedErased, stateUnits, stepCost, voidMarks}
-use Rattle.rules.specs.Sheet.{budget, call, walk, computed, told, done, cut, sizes, fresh, pages as filled, zeros, ff}
+use Rattle.rules.specs.Sheet.{budget, call, walk, computed, told, done, cut, sizes, fresh, filled, zeros, ff}
 use Rattle.rules.proofs.Sheet.{swapped-sheet, reverted-sheet}
 use Rattle.power.specs.Power.{Marked, Ready}
 use Rattle.power.specs.Bench.{noPages, OnTheBench, fine, fineCase, finely, InUnits, confirmation, Unconfirmed}
@@ -23,7 +23,8 @@ use Rattle.power.proofs.NoPages.{no-pages}
 use Rattle.power.proofs.Confirmed.{confirmed}
 
 ready : Ready (sizes 16) (fresh 15)
-unfolding pick erased magic page pages words any number firstRow mostNumber mostLength badNumber tooLong uneven outside unevenPage unevenAreas badState bootWords stateNumbers bootNumbers bootRefusal pageCount magicArea Fresh sizes fresh filled ff
+unfolding pick erased magic page pages words any number firstRow mostNumber mostLength badNumber tooLong uneven outside unevenPage
+    unevenAreas badState bootWords stateNumbers bootNumbers bootRefusal pageCount magicArea Fresh sizes fresh filled ff
 ready =
     record {
       marked = record { admitted = refl; active-bytes = search (lit<); dfu-bytes = search (lit<); fresh = refl };
@@ -31,7 +32,8 @@ ready =
     }
 
 marked-none : Marked (sizes 3) noPages
-unfolding pick erased magic page pages words any number firstRow mostNumber mostLength badNumber tooLong uneven outside unevenPage unevenAreas badState bootWords stateNumbers bootNumbers bootRefusal pageCount magicArea Fresh sizes noPages filled ff
+unfolding pick erased magic page pages words any number firstRow mostNumber mostLength badNumber tooLong uneven outside unevenPage
+    unevenAreas badState bootWords stateNumbers bootNumbers bootRefusal pageCount magicArea Fresh sizes noPages filled ff
 marked-none = record { admitted = refl; active-bytes = tt; dfu-bytes = search (lit<); fresh = refl }
 
 none : pageCount (sizes 3) noPages ≡ 0
@@ -39,7 +41,8 @@ unfolding page pages pageCount sizes noPages
 none = refl
 
 pub on-the-bench : OnTheBench
-unfolding erased marked magic page pages pageCount magicArea swapMarks swapTable pageAt withPage revertImages reverted revertedErased sizes fresh filled zeros ff
+unfolding erased marked magic page pages pageCount magicArea swapMarks swapTable pageAt withPage revertImages reverted
+    revertedErased sizes fresh filled zeros ff
 on-the-bench =
     record {
       ready = ready;
@@ -55,7 +58,8 @@ on-the-bench =
 -- ---- several units
 
 ready-fine : Ready fine (fresh 15)
-unfolding pick erased magic page pages words any number firstRow mostNumber mostLength badNumber tooLong uneven outside unevenPage unevenAreas badState bootWords stateNumbers bootNumbers bootRefusal pageCount magicArea Fresh fine fresh filled ff
+unfolding pick erased magic page pages words any number firstRow mostNumber mostLength badNumber tooLong uneven outside unevenPage
+    unevenAreas badState bootWords stateNumbers bootNumbers bootRefusal pageCount magicArea Fresh fine fresh filled ff
 ready-fine =
     record {
       marked = record { admitted = refl; active-bytes = search (lit<); dfu-bytes = search (lit<); fresh = refl };
@@ -63,11 +67,19 @@ ready-fine =
     }
 
 cases-fine : map computed finely ≡ map told finely
-unfolding pick erased marked magic throughout holds stateOf page pages words any number firstRow mostNumber mostLength badNumber tooLong uneven outside unevenPage unevenAreas badState otherWords bootWords stateNumbers bootNumbers bootRefusal stateRefusal programmed blank program erasedAt writtenAt change apply applyAll after unitOps eraseOps word readState valid markOpen mostMarks firstOpen marksDone progress markOp invalidateOp magicOp toDfu toActive swapFrom revertFrom swapSteps revertSteps sourceOf unitOf chunkOps fillOps copyOps onceOps copiesOps pageCount swapOps revertOps report left renewOps finishOps swapOrRevertOps confirming bootOpsIn bootOps prepareBoot budget call walk computed told done cut magicArea swapMarks swapTable pageAt withPage revertImages reverted revertMarks revertedPart setMagicOps mark voidMarks confirmedPart confirmedWhole ff zeros fresh filled fine fineCase finely
+unfolding pick erased marked magic throughout holds stateOf page pages words any number firstRow mostNumber mostLength badNumber
+    tooLong uneven outside unevenPage unevenAreas badState otherWords bootWords stateNumbers bootNumbers bootRefusal stateRefusal
+    programmed blank program erasedAt writtenAt change apply applyAll after unitOps eraseOps word readState valid markOpen
+    mostMarks firstOpen marksDone progress markOp invalidateOp magicOp toDfu toActive swapFrom revertFrom swapSteps revertSteps
+    sourceOf unitOf chunkOps fillOps copyOps onceOps copiesOps pageCount swapOps revertOps report left renewOps finishOps
+    swapOrRevertOps confirming bootOpsIn bootOps prepareBoot budget call walk computed told done cut magicArea swapMarks swapTable
+    pageAt withPage revertImages reverted revertMarks revertedPart setMagicOps mark voidMarks confirmedPart confirmedWhole ff
+    zeros fresh filled fine fineCase finely
 cases-fine = refl
 
 pub in-units : InUnits
-unfolding erased marked magic page pages blank pageCount unitOf pageAt withPage revertImages revertMarks revertedPart swapMarks swapTable voidMarks confirmedPart stateUnits stepCost fresh filled zeros ff fine
+unfolding erased marked magic page pages blank pageCount unitOf pageAt withPage revertImages revertMarks revertedPart swapMarks
+    swapTable voidMarks confirmedPart stateUnits stepCost fresh filled zeros ff fine
 in-units =
     record {
       ready = ready-fine;
@@ -83,11 +95,15 @@ in-units =
 -- ---- a confirmation that was cut
 
 swapped : Swapped (sizes 16) (swapTable (sizes 16) (fresh 15))
-unfolding pick erased marked magic page pages words any number firstRow mostNumber mostLength badNumber tooLong uneven outside unevenPage unevenAreas badState bootWords stateNumbers bootNumbers bootRefusal pageCount swapMarks swapTable sizes fresh filled ff
+unfolding pick erased marked magic page pages words any number firstRow mostNumber mostLength badNumber tooLong uneven outside
+    unevenPage unevenAreas badState bootWords stateNumbers bootNumbers bootRefusal pageCount swapMarks swapTable sizes fresh
+    filled ff
 swapped = record { admitted = refl; some-page = lit≤ tt; state = refl }
 
 cut-one : CutConfirmation confirmation 1
-unfolding pick erased marked magic throughout page pages words any number firstRow mostNumber mostLength badNumber tooLong uneven outside badState stateNumbers otherWords stateRefusal pageCount unitOps eraseOps word valid report renewOps setMagicOps mark swapMarks swapTable sizes fresh filled ff confirmation
+unfolding pick erased marked magic throughout page pages words any number firstRow mostNumber mostLength badNumber tooLong uneven
+    outside badState stateNumbers otherWords stateRefusal pageCount unitOps eraseOps word valid report renewOps setMagicOps mark
+    swapMarks swapTable sizes fresh filled ff confirmation
 cut-one = record { cut = refl; invalidated = lit≤ tt }
 
 pub unconfirmed : Unconfirmed

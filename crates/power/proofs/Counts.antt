@@ -7,7 +7,7 @@ use mathlib.Core.List.{List, [], _∷_, _++_}
 use Prim.Native.Nat.{ℕ, zero, suc, _+_, _*_, _/_, _≤_, _<_, max, zero-le}
 use native.Mathlib.Nat.{mul-le-mul-left, div-le-self, le-max-left, le-max-right}
 use native.Mathlib.Omega.{arith}
-use lib.Dec.{eqb, lit<}
+use lib.Dec.{eqb}
 use lib.ListN.{length, drop, length-append}
 use borrow.Author.Tests.{ltb-false, eqb-true}
 use Rattle.state.specs.declared.State.{State}

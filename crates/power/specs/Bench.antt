@@ -11,21 +11,21 @@ use Rattle.rules.specs.Steps.{pageCount}
 use Rattle.rules.specs.Calls.{Report, Call, left}
 use Rattle.rules.specs.FirmwareState.{mark}
 use Rattle.rules.specs.Power.{swapTable, reverted, revertedPart, revertedErased, stateUnits, stepCost}
-use Rattle.rules.specs.Sheet.{Run, Case, boot, markBooted, done, cut, sizes, fresh, pages, zeros, ff, computed, told}
+use Rattle.rules.specs.Sheet.{Run, Case, boot, markBooted, done, cut, sizes, fresh, filled, zeros, ff, computed, told}
 use Rattle.power.specs.Power.{Marked, Ready, Power, NoPages}
 use Rattle.power.specs.Confirm.{Swapped, CutConfirmation, Confirms, confirmedPart, confirmedWhole}
 
 -- the flash of case l
 unfoldable pub noPages : Flash
-noPages = flash [] (pages (4 ∷ [])) (0xF0 ∷ ff 2)
+noPages = flash [] (filled (4 ∷ [])) (0xF0 ∷ ff 2)
 
 pub record OnTheBench : Type 0 where
   pub ready : Ready (sizes 16) (fresh 15)
   -- case a, case f, and the flash of case i
   pub swaps : swapTable (sizes 16) (fresh 15)
-      ≡ flash (pages (4 ∷ 5 ∷ 6 ∷ [])) (pages (4 ∷ 1 ∷ 2 ∷ 3 ∷ [])) (0xF0 ∷ 0xFF ∷ (zeros 6 ++ ff 8))
-  pub reverts : reverted (sizes 16) (fresh 15) ≡ flash (pages (1 ∷ 2 ∷ 3 ∷ [])) (pages (4 ∷ 5 ∷ 6 ∷ 3 ∷ [])) (0xC0 ∷ ff 15)
-  pub rests : revertedErased (sizes 16) (fresh 15) ≡ flash (pages (1 ∷ 2 ∷ 3 ∷ [])) (pages (4 ∷ 5 ∷ 6 ∷ 3 ∷ [])) (ff 16)
+      ≡ flash (filled (4 ∷ 5 ∷ 6 ∷ [])) (filled (4 ∷ 1 ∷ 2 ∷ 3 ∷ [])) (0xF0 ∷ 0xFF ∷ (zeros 6 ++ ff 8))
+  pub reverts : reverted (sizes 16) (fresh 15) ≡ flash (filled (1 ∷ 2 ∷ 3 ∷ [])) (filled (4 ∷ 5 ∷ 6 ∷ 3 ∷ [])) (0xC0 ∷ ff 15)
+  pub rests : revertedErased (sizes 16) (fresh 15) ≡ flash (filled (1 ∷ 2 ∷ 3 ∷ [])) (filled (4 ∷ 5 ∷ 6 ∷ 3 ∷ [])) (ff 16)
   -- so the promise holds there
   pub power : Power (sizes 16) (fresh 15)
   -- case l
@@ -61,9 +61,9 @@ pub record InUnits : Type 0 where
   pub units : stateUnits fine (fresh 15) ≡ 4
   pub cases : map computed finely ≡ map told finely
   pub part : revertedPart fine 1 (fresh 15)
-      ≡ flash (pages (1 ∷ 2 ∷ 3 ∷ [])) (pages (4 ∷ 5 ∷ 6 ∷ 3 ∷ [])) (ff 4 ++ (zeros 10 ++ ff 2))
+      ≡ flash (filled (1 ∷ 2 ∷ 3 ∷ [])) (filled (4 ∷ 5 ∷ 6 ∷ 3 ∷ [])) (ff 4 ++ (zeros 10 ++ ff 2))
   pub confirmed : confirmedPart fine 1 (swapTable fine (fresh 15))
-      ≡ flash (pages (4 ∷ 5 ∷ 6 ∷ [])) (pages (4 ∷ 1 ∷ 2 ∷ 3 ∷ [])) (ff 4 ++ (zeros 4 ++ ff 8))
+      ≡ flash (filled (4 ∷ 5 ∷ 6 ∷ [])) (filled (4 ∷ 1 ∷ 2 ∷ 3 ∷ [])) (ff 4 ++ (zeros 4 ++ ff 8))
   pub power : Power fine (fresh 15)
 
 -- case j: on the flash of case a a mark_booted is cut right after its invalidation
@@ -76,4 +76,4 @@ pub record Unconfirmed : Type 0 where
   -- so the promise holds there, and the Boot magic is what is left
   pub confirms : Confirms (sizes 16) (swapTable (sizes 16) (fresh 15)) 0 (left confirmation 1 (swapTable (sizes 16) (fresh 15)))
   pub booted : confirmedWhole (sizes 16) (swapTable (sizes 16) (fresh 15))
-      ≡ flash (pages (4 ∷ 5 ∷ 6 ∷ [])) (pages (4 ∷ 1 ∷ 2 ∷ 3 ∷ [])) (0xD0 ∷ ff 15)
+      ≡ flash (filled (4 ∷ 5 ∷ 6 ∷ [])) (filled (4 ∷ 1 ∷ 2 ∷ 3 ∷ [])) (0xD0 ∷ ff 15)

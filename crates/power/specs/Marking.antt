@@ -2,7 +2,6 @@
 -- its premise is met by the crate's own call. Proved in proofs/Marking. Assumes nothing.
 use mathlib.Core.Path.{_≡_}
 use mathlib.Core.Bool.{true, false}
-use Prim.Native.Nat.{ℕ}
 use lib.ListN.{length}
 use Rattle.state.specs.declared.State.{State}
 use Rattle.state.specs.declared.State.the-variants.{Swap}

@@ -2,7 +2,6 @@
 -- in proofs/Settled. Assumes nothing.
 use mathlib.Core.Path.{_≡_}
 use mathlib.Core.List.{[], _∷_}
-use Prim.Native.Nat.{ℕ}
 use Rattle.geometry.specs.declared.Geometry.{Geometry}
 use Rattle.mem_flash.specs.Flash.{Flash, Supply}
 use Rattle.rules.specs.Boot.{prepareBoot}

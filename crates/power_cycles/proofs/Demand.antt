@@ -23,7 +23,7 @@ use Rattle.rules.specs.Boot.{prepareBoot}
 use Rattle.rules.specs.Power.{swapMarks, swapTable, revertImages, reverted, revertedPart, stateUnits, dearerCost}
 use Rattle.power.specs.Power.{Ready, ran, AllCut, Short, InErase, AllAtLeast, Power}
 use Rattle.power.proofs.Proved.{power}
-use Rattle.power_cycles.specs.Cycles.{Whole, Made, SwapOf, Reverted, AtLatest, Cycles}
+use Rattle.power_cycles.specs.Cycles.{Uncut, Made, SwapOf, Reverted, AtLatest, Cycles}
 use Rattle.power_cycles.proofs.Made.{all-cut, First, found}
 
 -- ---- how soon
@@ -36,7 +36,7 @@ taken m (suc n) (k ∷ ks) a = (a .0, taken m n ks (a .1))
 
 soon : {g : Geometry} {ks : List ℕ} {f f′ : Flash} {n : ℕ} {r : Answer} (m : ℕ)
     → ((js : List ℕ) → AllAtLeast (dearerCost g) js → AllCut g js f → length js < m)
-    → Made g ks f f′ n r → Whole r ⊎ (n ≡ length ks) → AllAtLeast (dearerCost g) ks → AtLatest m ks n r
+    → Made g ks f f′ n r → Uncut r ⊎ (n ≡ length ks) → AllAtLeast (dearerCost g) ks → AtLatest m ks n r
 soon {g} {ks} {f} {n = n} {r} m few made stops many =
     record {
       most =
@@ -48,7 +48,7 @@ soon {g} {ks} {f} {n = n} {r} m few made stops many =
       comes = λ enough c. stopped enough c (few (take n ks) (taken (dearerCost g) n ks many) (all-cut made c)) stops;
     }
   where
-    stopped : m ≤ length ks → reported r .number ≡ 7 → length (take n ks) < m → Whole r ⊎ (n ≡ length ks) → ⊥
+    stopped : m ≤ length ks → reported r .number ≡ 7 → length (take n ks) < m → Uncut r ⊎ (n ≡ length ks) → ⊥
     stopped enough c less (inl w) = w c
     stopped enough c less (inr e) = omega (arith, length-take-le n ks (made .budgets))
 
@@ -119,7 +119,7 @@ module _ (g : Geometry) (f : Flash) (ready : Ready g f) where
 
 -- ---- all of it
 
-pub cycles : {g : Geometry} {ks : List ℕ} {f f′ : Flash} {n : ℕ} {r : Answer} → Made g ks f f′ n r → Whole r ⊎ (n ≡ length ks)
+pub cycles : {g : Geometry} {ks : List ℕ} {f f′ : Flash} {n : ℕ} {r : Answer} → Made g ks f f′ n r → Uncut r ⊎ (n ≡ length ks)
     → Cycles g ks f f′ n r
 cycles {g} {ks} {f} {f′} {n} {r} made stops =
     record {

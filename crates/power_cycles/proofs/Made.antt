@@ -19,7 +19,7 @@ use Rattle.rules.proofs.Answer.{the-type}
 use Rattle.rules.specs.Calls.{Report, reported, Did}
 use Rattle.rules.specs.Boot.{prepareBoot}
 use Rattle.power.specs.Power.{answer, ran, Cut, runs, AllCut, FirstWhole}
-use Rattle.power_cycles.specs.Cycles.{Whole, lastAnswer, Made}
+use Rattle.power_cycles.specs.Cycles.{Uncut, lastAnswer, Made}
 
 -- ---- boots with one budget more
 
@@ -94,7 +94,7 @@ pub record First (g : Geometry) (f f′ : Flash) (r : Answer) : Type 0 where
   pub told : reported r ≡ answer g last (runs g cut f)
   pub leaves : f′ ≡ ran g last (runs g cut f)
 
-pub found : {g : Geometry} {ks : List ℕ} {f f′ : Flash} {n : ℕ} {r : Answer} → Made g ks f f′ n r → Whole r → First g f f′ r
+pub found : {g : Geometry} {ks : List ℕ} {f f′ : Flash} {n : ℕ} {r : Answer} → Made g ks f f′ n r → Uncut r → First g f f′ r
 unfolding Cut reported
 found {n = zero} m w = absurd (w (ap (λ (t : Report). t .number) (made-none m)))
 found {ks = ks} {n = suc n} m w =
@@ -110,7 +110,7 @@ found {ks = ks} {n = suc n} m w =
 -- ---- the code
 
 -- a match with no arm for a cut but `else` tells of the other answers by their place in the enum
-pub whole : (r : Answer) → OneOf (0 ∷ 1 ∷ 2 ∷ []) (tagOf the-type r) → Whole r
+pub whole : (r : Answer) → OneOf (0 ∷ 1 ∷ 2 ∷ []) (tagOf the-type r) → Uncut r
 unfolding reported number
 whole (Found s n) o e = omega arith
 whole (Done n) o e = omega arith
@@ -122,9 +122,9 @@ whole (Refused BadState) o e = omega arith
 whole (Refused Range) o e = omega arith
 whole (CutAfter n) o e = ⊎-elim (λ x. omega (arith, x)) (λ p. ⊎-elim (λ x. omega (arith, x)) (λ x. omega (arith, x)) p) o
 
-pub is-cut : {r : Answer} {n : ℕ} → r ≡ CutAfter n → reported r .number ≡ 7
+pub cut-number : {r : Answer} {n : ℕ} → r ≡ CutAfter n → reported r .number ≡ 7
 unfolding reported
-is-cut e = ap (λ (x : Answer). reported x .number) e
+cut-number e = ap (λ (x : Answer). reported x .number) e
 
 -- what holds at the loop's test: the boots made so far were all cut, and the areas are as long as they were
 pub record Cutting (g : Geometry) (ks : List ℕ) (f h : Flash) (n : ℕ) (q : Answer) : Type 0 where

@@ -14,7 +14,7 @@ use Rattle.rules.specs.declared.Answer.{Answer}
 use Rattle.rules.specs.Calls.{Report, reported}
 use Rattle.rules.proofs.Unique.{answer-unique}
 use Rattle.power.specs.Power.{ran, Cut, runs, AllCut}
-use Rattle.power_cycles.specs.Cycles.{Whole, lastAnswer, Made, Cycles}
+use Rattle.power_cycles.specs.Cycles.{Uncut, lastAnswer, Made, Cycles}
 use Rattle.power_cycles.proofs.Made.{made-none, made-last}
 use Rattle.power_cycles.proofs.boot_until_whole.Kinds as kinds
 use Rattle.power_cycles.proofs.boot_until_whole.Reads as boot-until-whole
@@ -41,7 +41,7 @@ module _ {g : Geometry} {ks : List ℕ} {f f₁ f₂ : Flash} {q r : Answer} whe
   no-more : {m n : ℕ} → Cycles g ks f f₁ m q → Cycles g ks f f₂ n r → m < n → ⊥
   no-more {m} {n} a b less = go (a .stops)
     where
-      go : Whole q ⊎ (m ≡ length ks) → ⊥
+      go : Uncut q ⊎ (m ≡ length ks) → ⊥
       go (inl w) = w (earlier m n (a .made) (b .made) less)
       go (inr e) = omega (arith, b .made .budgets)
 

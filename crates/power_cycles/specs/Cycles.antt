@@ -20,8 +20,8 @@ use Rattle.power.specs.Power.{Ready, answer, ran, runs, AllCut, AllAtLeast}
 -- ---- the boots
 
 -- the answer is not a cut
-abbrev pub Whole : Answer → Type 0
-Whole r = reported r .number ≡ 7 → ⊥
+abbrev pub Uncut : Answer → Type 0
+Uncut r = reported r .number ≡ 7 → ⊥
 
 -- what the last of these boots answers; with none, a cut after no operation
 unfoldable pub lastAnswer : Geometry → List ℕ → Flash → Report
@@ -54,17 +54,17 @@ pub record Reverted (g : Geometry) (f₀ f′ : Flash) (r : Answer) : Type 0 whe
 -- of n boots the last, with the answer r, was at latest the m-th; and it was not cut, if there were budgets for m boots
 pub record AtLatest (m : ℕ) (ks : List ℕ) (n : ℕ) (r : Answer) : Type 0 where
   pub most : n ≤ m
-  pub comes : m ≤ length ks → Whole r
+  pub comes : m ≤ length ks → Uncut r
 
 -- ---- the contract: boots until one is not cut, or no budget is left; and demand 3, sentence by sentence
 
 pub record Cycles (g : Geometry) (ks : List ℕ) (f f′ : Flash) (n : ℕ) (r : Answer) : Type 0 where
   pub made : Made g ks f f′ n r
-  pub stops : Whole r ⊎ (n ≡ length ks)
+  pub stops : Uncut r ⊎ (n ≡ length ks)
   -- cut anywhere, any number of times: the first boot that is not cut leaves exactly the swap table, and answers Swap
-  pub swaps : Ready g f → Whole r → (f′ ≡ swapTable g f) × (reported r .state ≡ some Swap)
+  pub swaps : Ready g f → Uncut r → (f′ ≡ swapTable g f) × (reported r .state ≡ some Swap)
   -- from there the same holds of the revert's two images
-  pub reverts : (f₀ : Flash) → SwapOf g f₀ f → Whole r → Reverted g f₀ f′ r
+  pub reverts : (f₀ : Flash) → SwapOf g f₀ f → Uncut r → Reverted g f₀ f′ r
   -- if every boot has at least the dearer step's cost, that boot is at latest the 2N-th for the swap
   pub swap-soon : Ready g f → AllAtLeast (dearerCost g) ks → AtLatest (2 * pageCount g f) ks n r
   -- and the (2N + 2)-th for the revert

@@ -1,8 +1,7 @@
 // Replays a sample of the original's answers, read from standard input, through the library, and says how many calls of each kind
 // came out the same. It lets the repository's own tests hold the library to the original without a Rust compiler. What the sample
 // is made of, and its format, stands in the README of the folder oracle.
-ghost use mathlib.Core.Path.{_≡_};
-ghost use Prim.Native.Nat.{_+_, _≤_, _<_, _^_};
+ghost use Prim.Native.Nat.{_+_, _≤_, _<_};
 use libc::STDIN_FILENO;
 use libc::STDOUT_FILENO;
 

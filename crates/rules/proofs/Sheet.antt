@@ -13,7 +13,7 @@ use Rattle.rules.specs.Steps.{toDfu, toActive, swapFrom, revertFrom, swa
 use Rattle.rules.specs.Calls.{report, left}
 use Rattle.rules.specs.Boot.{renewOps, finishOps, swapOrRevertOps, confirming, bootOpsIn, bootOps, prepareBoot}
 use Rattle.rules.specs.FirmwareState.{setMagicOps, mark}
-use Rattle.rules.specs.Sheet.{budget, call, walk, table, computed, told, Starred, done, cut, refused, ff, zeros, fresh, case, sizes, pages as filled}
+use Rattle.rules.specs.Sheet.{budget, call, walk, table, computed, told, Starred, done, cut, refused, ff, zeros, fresh, case, sizes, filled}
 
 pub starred : Starred
 unfolding pick erased marked magic throughout holds stateOf page pages words

@@ -56,9 +56,9 @@ unfoldable pub refused : ℕ → Report
 refused n = record { number = n; state = none; count = 0 }
 
 -- pages of four bytes, each filled with one byte
-unfoldable pub pages : List ℕ → List ℕ
-pages [] = []
-pages (x ∷ xs) = x ∷ x ∷ x ∷ x ∷ pages xs
+unfoldable pub filled : List ℕ → List ℕ
+filled [] = []
+filled (x ∷ xs) = x ∷ x ∷ x ∷ x ∷ filled xs
 
 -- erase 4, 4, es; write 2, 2, 1; b = 2
 unfoldable pub sizes : ℕ → Geometry
@@ -74,12 +74,12 @@ zeros n = replicate n 0x00
 
 -- the sheet's start, with a state area of 1 + n bytes
 unfoldable pub fresh : ℕ → Flash
-fresh n = flash (pages (1 ∷ 2 ∷ 3 ∷ [])) (pages (4 ∷ 5 ∷ 6 ∷ 7 ∷ [])) (0xF0 ∷ ff n)
+fresh n = flash (filled (1 ∷ 2 ∷ 3 ∷ [])) (filled (4 ∷ 5 ∷ 6 ∷ 7 ∷ [])) (0xF0 ∷ ff n)
 
 -- a case of the sheet's geometry
 unfoldable pub case : List Run → Report → List ℕ → List ℕ → List ℕ → Case
 case runs r active dfu st =
-    record { geometry = sizes 16; start = fresh 15; runs = runs; answer = r; left = flash (pages active) (pages dfu) st }
+    record { geometry = sizes 16; start = fresh 15; runs = runs; answer = r; left = flash (filled active) (filled dfu) st }
 
 -- ---- the table
 
@@ -111,7 +111,7 @@ table =
       start = fresh 13;
       runs = boot 24 ∷ markBooted 1 ∷ boot 7 ∷ [];
       answer = refused 4;
-      left = flash (pages (1 ∷ 2 ∷ 3 ∷ [])) (pages (4 ∷ 5 ∷ 6 ∷ 7 ∷ [])) (0xF0 ∷ 0x00 ∷ ff 12);
+      left = flash (filled (1 ∷ 2 ∷ 3 ∷ [])) (filled (4 ∷ 5 ∷ 6 ∷ 7 ∷ [])) (0xF0 ∷ 0x00 ∷ ff 12);
     }
     -- Ls = 14 by itself
     ∷ record { geometry = sizes 14; start = fresh 13; runs = boot 24 ∷ []; answer = refused 4; left = fresh 13 }
@@ -121,7 +121,7 @@ table =
       start = fresh 14;
       runs = boot 24 ∷ markBooted 1 ∷ boot 7 ∷ [];
       answer = done Swap 2;
-      left = flash (pages (4 ∷ 5 ∷ 6 ∷ [])) (pages (4 ∷ 1 ∷ 2 ∷ 3 ∷ [])) (0xD0 ∷ ff 14);
+      left = flash (filled (4 ∷ 5 ∷ 6 ∷ [])) (filled (4 ∷ 1 ∷ 2 ∷ 3 ∷ [])) (0xD0 ∷ ff 14);
     }
     -- h with as few words: all marks of a finished revert are read
     ∷ record {
@@ -129,15 +129,15 @@ table =
       start = fresh 14;
       runs = boot 24 ∷ boot 25 ∷ boot 3 ∷ [];
       answer = done Swap 3;
-      left = flash (pages (1 ∷ 2 ∷ 3 ∷ [])) (pages (4 ∷ 5 ∷ 6 ∷ 3 ∷ [])) (0xC0 ∷ ff 14);
+      left = flash (filled (1 ∷ 2 ∷ 3 ∷ [])) (filled (4 ∷ 5 ∷ 6 ∷ 3 ∷ [])) (0xC0 ∷ ff 14);
     }
     -- l
     ∷ record {
       geometry = sizes 3;
-      start = flash [] (pages (4 ∷ [])) (0xF0 ∷ ff 2);
+      start = flash [] (filled (4 ∷ [])) (0xF0 ∷ ff 2);
       runs = boot 3 ∷ [];
       answer = done Swap 3;
-      left = flash [] (pages (4 ∷ [])) (0xC0 ∷ ff 2);
+      left = flash [] (filled (4 ∷ [])) (0xC0 ∷ ff 2);
     }
     ∷ []
 

@@ -1,7 +1,7 @@
 -- Laws of the state that a word stands for: one for each way out of `State::from`, and of `State::from_magic` by the word of one byte.
 -- Assumes nothing.
 use mathlib.Core.Path.{_≡_, refl}
-use mathlib.Core.Bool.{Bool, true, false}
+use mathlib.Core.Bool.{true, false}
 use mathlib.Core.List.{List, [], _∷_}
 use Prim.Native.Nat.{ℕ}
 use lib.Dec.{eqb}

@@ -1,7 +1,7 @@
 // The boot state and the bytes that stand for it in flash: lib.rs of the crate.
 ghost use mathlib.Core.Path.{_≡_};
 ghost use mathlib.Core.List.{[], _∷_};
-ghost use Rattle.state.specs.Magic.{magic, throughout, holds, stateOf};
+ghost use Rattle.state.specs.Magic.{magic, stateOf};
 
 pub mod word;
 

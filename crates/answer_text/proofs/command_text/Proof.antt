@@ -41,7 +41,20 @@ put-bytes-requires-3 : tie.Need-put-bytes-requires-3
 put-bytes-requires-3 c κs = search needs
 
 returns : tie.Need-returns
-returns c = let t = c .before .before .before .before .before .before .before .before .before .before .before .before .before .before .before .before .before .tell .ensures in (c .put-bytes3 .ensures .1, line-answered (c .before .before .before .before .before .before .before .before .before .before .before .before .before .before .before .before .before .before .args .command) _ _ _ _ _ _ _ _ _ _ _ _ _ _ (c .before .before .before .before .before .before .before .before .before .before .before .before .before .before .before .put-name .ensures .0) (c .before .before .before .before .before .before .before .before .before .before .before .before .put-bytes .ensures .0) (rw (t .0) at (c .before .before .before .before .before .before .before .before .before .put-number .ensures)) (rw (t .1) at (c .before .before .before .before .before .before .put-bytes2 .ensures .0)) (rw (t .2) at (c .before .before .before .put-number2 .ensures)) (c .put-bytes3 .ensures .0))
+returns c =
+    let second = c .before .before .before in
+    let state = second .before .before .before in
+    let first = state .before .before .before in
+    let space = first .before .before .before in
+    let name = space .before .before .before in
+    let told = name .before .before in
+    let t = told .tell .ensures in (
+      c .put-bytes3 .ensures .1,
+      line-answered (told .before .args .command) _ _ _ _ _ _ _ _ _ _ _ _ _ _ (name .put-name .ensures .0)
+          (space .put-bytes .ensures .0) (rw (t .0) at (first .put-number .ensures))
+          (rw (t .1) at (state .put-bytes2 .ensures .0)) (rw (t .2) at (second .put-number2 .ensures))
+          (c .put-bytes3 .ensures .0),
+    )
 
 pub command-text-spec : {M : Type 1} → statement M
 command-text-spec =

@@ -41,7 +41,15 @@ loop-less : tie.Need-loop-less Inv-loop μ-loop
 loop-less c = search needs
 
 loop-again : tie.Need-loop-again Inv-loop μ-loop
-loop-again c = let l = c .before .before .before .before .before .before .before .before .before .loop in let t = hex-turn (c .before .before .before .before .before .before .before .before .before .before .before .before .args .bytes .now) _ _ (l .i) (l .n) _ _ _ (c .before .before .before .before .before .before .before .before .loop-test .taken) (l .inv .2) (l .inv .3) (c .before .before .before .before .before .digit .ensures) (c .before .before .before .before .digit2 .ensures) (c .before .before .put .ensures) in (omega (arith, c .before .before .before .before .before .before .before .before .loop-test .taken), c .before .before .put .kept .0 ∙ l .inv .1, t .0, t .1)
+loop-again c =
+    let put = c .before .before in
+    let digits = put .before .before in
+    let turn = digits .before .before .before .before in
+    let head = turn .before in
+    let l = head .loop in
+    let t = hex-turn (head .before .before .before .args .bytes .now) _ _ (l .i) (l .n) _ _ _ (turn .loop-test .taken) (l .inv .2)
+    (l .inv .3) (digits .before .digit .ensures) (digits .digit2 .ensures) (put .put .ensures) in
+    (omega (arith, turn .loop-test .taken), put .put .kept .0 ∙ l .inv .1, t .0, t .1)
 
 same-length : tie.Need-same-length Inv-loop μ-loop
 same-length c = search needs

@@ -33,7 +33,14 @@ loop-less : tie.Need-loop-less Inv-loop μ-loop
 loop-less c = search needs
 
 loop-again : tie.Need-loop-again Inv-loop μ-loop
-loop-again c = (search needs, simp length-set (c .before .before .loop .inv .1), put-turn (c .before .before .before .args .out .now) (c .before .before .loop .out) (c .before .before .before .args .bytes .now) (c .before .before .before .args .n) (c .before .before .loop .i) (c .before .before .loop .inv .2) (c .before .loop-test .taken) (c .before .before .before .pre))
+loop-again c =
+    let head = c .before .before in
+    let a = head .before .args in
+    let l = head .loop in (
+      search needs,
+      simp length-set (l .inv .1),
+      put-turn (a .out .now) (l .out) (a .bytes .now) (a .n) (l .i) (l .inv .2) (c .before .loop-test .taken) (head .before .pre),
+    )
 
 add-result : tie.Need-add-result Inv-loop μ-loop
 add-result c = search needs
@@ -42,7 +49,11 @@ same-length : tie.Need-same-length Inv-loop μ-loop
 same-length c = search needs
 
 returns : tie.Need-returns Inv-loop μ-loop
-returns c = put-end (c .before .before .args .out .now) (c .before .loop .out) (c .before .before .args .bytes .now) (c .before .before .args .n) (c .before .loop .i) (c .before .loop .inv .2) (c .before .loop .inv .0) (c .loop-test .left) (c .before .before .pre)
+returns c =
+    let start = c .before .before in
+    let a = start .args in
+    let l = c .before .loop in
+    put-end (a .out .now) (l .out) (a .bytes .now) (a .n) (l .i) (l .inv .2) (l .inv .0) (c .loop-test .left) (start .pre)
 
 pub put-spec : {M : Type 1} → statement M
 put-spec =

@@ -15,10 +15,17 @@ slice-aggregate-put-bytes : tie.Need-slice-aggregate-put-bytes
 slice-aggregate-put-bytes c = search needs
 
 put-bytes-requires : tie.Need-put-bytes-requires
-put-bytes-requires c κs = omega (arith, c .before .before .before .before .pre, c .before .before .decimal .ensures .0 .1, few-digits (c .before .before .before .before .args .x) (c .before .before .decimal .result) (c .before .before .before .before .fits .x .fits) (c .before .before .decimal .ensures .1 .0))
+put-bytes-requires c κs =
+    let d = c .before .before .decimal in
+    let start = c .before .before .before .before in
+    omega (arith, start .pre, d .ensures .0 .1, few-digits (start .args .x) (d .result) (start .fits .x .fits) (d .ensures .1 .0))
 
 returns : tie.Need-returns
-returns c = put-digits _ _ (c .before .before .before .decimal .last .1 .0) _ _ (c .before .before .before .decimal .result) _ (c .before .before .before .decimal .ensures .1 .0) (c .before .before .before .decimal .ensures .0 .1) (few-digits (c .before .before .before .before .before .args .x) (c .before .before .before .decimal .result) (c .before .before .before .before .before .fits .x .fits) (c .before .before .before .decimal .ensures .1 .0)) (c .before .before .before .decimal .ensures .1 .1) (c .put-bytes .ensures .0)
+returns c =
+    let d = c .before .before .before .decimal in
+    let start = c .before .before .before .before .before in
+    put-digits _ _ (d .last .1 .0) _ _ (d .result) _ (d .ensures .1 .0) (d .ensures .0 .1)
+    (few-digits (start .args .x) (d .result) (start .fits .x .fits) (d .ensures .1 .0)) (d .ensures .1 .1) (c .put-bytes .ensures .0)
 
 pub put-number-spec : {M : Type 1} → statement M
 put-number-spec =

@@ -4,7 +4,7 @@ use Rattle.mem_flash.specs.Flash.{change}
 use Rattle.mem_flash.specs.Run.{flash, placed}
 use Rattle.rules.specs.Steps.{toActive, sourceOf, unitOf}
 use Rattle.boot_steps.proofs.Room.{source-low, target-low, page-in, mark-low}
-use Rattle.boot_steps.proofs.Copies.{Filled, filled, once-skip, once-cut, once-on}
+use Rattle.boot_steps.proofs.Copies.{Filled, filled, once-skipped, once-cut, once-on}
 use borrow.Author.Needs.{needs}
 use Rattle.boot_steps.proofs.copy_page_once_to_active.Statement.{statement}
 use Rattle.boot_steps.proofs.copy_page_once_to_active.Tie as tie
@@ -89,7 +89,7 @@ same-length-5 c = refl
 
 returns-3 : tie.Need-returns-3
 unfolding toActive
-returns-3 c = once-skip _ _ _ _ (c .before .current-progress .ensures) (c .if1 .left)
+returns-3 c = once-skipped _ _ _ _ (c .before .current-progress .ensures) (c .if1 .left)
 
 pub copy-page-once-to-active-spec : {M : Type 1} → statement M
 copy-page-once-to-active-spec =

@@ -3,12 +3,6 @@ use Rattle.geometry.proofs.Rows.{limits-in, boot-limit, boot-page, boot
 use borrow.Author.Needs.{needs}
 use Rattle.geometry.proofs.boot_verdict.Statement.{statement}
 use Rattle.geometry.proofs.boot_verdict.Tie as tie
-use Rattle.geometry.proofs.boot_verdict.Reads as reads
-use Rattle.geometry.proofs.boot_verdict.Lts as lts
-use Rattle.geometry.proofs.check.bad_boot_state.Reads as bad-boot-state-reads
-use Rattle.geometry.proofs.check.boot_limits.Reads as boot-limits-reads
-use Rattle.geometry.proofs.check.uneven_areas.Reads as uneven-areas-reads
-use Rattle.geometry.proofs.check.uneven_page.Reads as uneven-page-reads
 
 -- src/lib.rt:83:8
 boot-limits-requires : tie.Need-boot-limits-requires

@@ -3,10 +3,6 @@ use mathlib.Core.Path.{_∙_, sym}
 use borrow.Author.Needs.{needs}
 use Rattle.geometry.proofs.state_verdict.Statement.{statement}
 use Rattle.geometry.proofs.state_verdict.Tie as tie
-use Rattle.geometry.proofs.state_verdict.Reads as reads
-use Rattle.geometry.proofs.state_verdict.Lts as lts
-use Rattle.geometry.proofs.check.bad_state.Reads as bad-state-reads
-use Rattle.geometry.proofs.check.state_limits.Reads as state-limits-reads
 
 -- src/lib.rt:124:8
 state-limits-requires : tie.Need-state-limits-requires

@@ -3,11 +3,6 @@ use mathlib.Core.Path.{_∙_, sym}
 use borrow.Author.Needs.{needs}
 use Rattle.geometry.proofs.updater_verdict.Statement.{statement}
 use Rattle.geometry.proofs.updater_verdict.Tie as tie
-use Rattle.geometry.proofs.updater_verdict.Reads as reads
-use Rattle.geometry.proofs.updater_verdict.Lts as lts
-use Rattle.geometry.proofs.check.bad_state.Reads as bad-state-reads
-use Rattle.geometry.proofs.check.uneven.Reads as uneven-reads
-use Rattle.geometry.proofs.check.updater_limits.Reads as updater-limits-reads
 
 -- src/lib.rt:137:8
 updater-limits-requires : tie.Need-updater-limits-requires

@@ -2,7 +2,6 @@
 use mathlib.Core.Path.{sym, ap, _∙_, refl}
 use borrow.Author.Needs.{needs}
 use Rattle.state.specs.Choice.{pick}
-use Rattle.numerals.specs.Text.{row}
 use Rattle.lines.specs.Lines.{lengthsLine, lengthsOf}
 use Rattle.lines.proofs.Said.{row-no, row-yes, first-long, second-long, third-long, all-short}
 use Rattle.lines.proofs.read_lengths.Statement.{statement}

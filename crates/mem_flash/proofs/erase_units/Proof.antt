@@ -43,7 +43,11 @@ same-length c = search needs
 
 -- src/lib.rt:83:13
 returns : tie.Need-returns Inv-loop μ-loop
-returns c = λ a f. c .before .before .before .before .before .before .before .loop .inv .3 a f ∙ unit-cut _ _ _ _ _ _ _ _ _ (c .before .before .before .before .erase-unit .ensures) (omega arith) (c .before .before .before .before .before .before .loop-test .taken) (c .enum-told .given .1) a f
+returns c = λ a f.
+    let unit = c .before .before .before .before in
+    let turn = unit .before .before in
+    turn .before .loop .inv .3 a f
+    ∙ unit-cut _ _ _ _ _ _ _ _ _ (unit .erase-unit .ensures) (omega arith) (turn .loop-test .taken) (c .enum-told .given .1) a f
 
 -- src/lib.rt:87:9
 add-i : tie.Need-add-i Inv-loop μ-loop
@@ -55,7 +59,16 @@ loop-less c = search needs
 
 -- src/lib.rt:80:5
 loop-again : tie.Need-loop-again Inv-loop μ-loop
-loop-again c = (search needs, search needs, search needs, λ a f. c .before .before .before .before .before .before .before .before .loop .inv .3 a f ∙ unit-on _ _ _ _ _ _ _ _ _ (c .before .before .before .before .before .erase-unit .ensures) (omega arith) (c .before .before .before .before .before .before .before .loop-test .taken) _ (c .before .rest .given .1) a f)
+loop-again c =
+    let unit = c .before .before .before .before .before in
+    let turn = unit .before .before in (
+      search needs,
+      search needs,
+      search needs,
+      λ a f.
+          turn .before .loop .inv .3 a f
+          ∙ unit-on _ _ _ _ _ _ _ _ _ (unit .erase-unit .ensures) (omega arith) (turn .loop-test .taken) _ (c .before .rest .given .1) a f,
+    )
 
 -- src/lib.rt:73:1
 same-length-2 : tie.Need-same-length-2 Inv-loop μ-loop

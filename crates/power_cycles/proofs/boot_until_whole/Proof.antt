@@ -6,7 +6,7 @@ use native.Mathlib.Omega.{arith}
 use borrow.Author.Needs.{needs}
 use lib.ListN.{length}
 use Rattle.mem_flash.specs.Run.{flash}
-use Rattle.power_cycles.proofs.Made.{Cutting, cutting-none, made-next, whole, is-cut}
+use Rattle.power_cycles.proofs.Made.{Cutting, cutting-none, made-next, whole, cut-number}
 use Rattle.power_cycles.proofs.Demand.{cycles}
 use Rattle.power_cycles.proofs.boot_until_whole.Statement.{statement}
 use Rattle.power_cycles.proofs.boot_until_whole.Tie as tie
@@ -45,7 +45,7 @@ loop-again c =
     let turn = call .before .before .before .before .before in
     record {
       made = made-next (turn .before .loop .inv) (turn .loop-test .taken) (call .prepare-boot .ensures);
-      cut = is-cut (c .enum-told .given .1);
+      cut = cut-number (c .enum-told .given .1);
       active = search needs;
       dfu = search needs;
       state = search needs;

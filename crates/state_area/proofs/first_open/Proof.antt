@@ -4,10 +4,6 @@ use mathlib.Core.Path.{refl}
 use borrow.Author.Needs.{needs}
 use Rattle.state_area.proofs.first_open.Statement.{statement}
 use Rattle.state_area.proofs.first_open.Tie as tie
-use Rattle.state_area.proofs.first_open.Reads as reads
-use Rattle.state_area.proofs.first_open.Lts as lts
-use Rattle.state_area.proofs.most_marks.Reads as most-marks-reads
-use Rattle.state_area.proofs.search.first.Reads as first-reads
 
 -- src/lib.rt:63:14
 cast-ws : tie.Need-cast-ws

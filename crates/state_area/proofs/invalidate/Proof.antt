@@ -2,9 +2,6 @@ use Rattle.state_area.proofs.Changes.{invalidated}
 use borrow.Author.Needs.{needs}
 use Rattle.state_area.proofs.invalidate.Statement.{statement}
 use Rattle.state_area.proofs.invalidate.Tie as tie
-use Rattle.state_area.proofs.invalidate.Reads as reads
-use Rattle.state_area.proofs.invalidate.Lts as lts
-use Rattle.mem_flash.proofs.write_word.Reads as write-word-reads
 
 -- src/lib.rt:102:14
 cast-ws : tie.Need-cast-ws

@@ -5,10 +5,6 @@ use mathlib.Core.Path.{_∙_, ap}
 use borrow.Author.Needs.{needs}
 use Rattle.state_area.proofs.is_valid.Statement.{statement}
 use Rattle.state_area.proofs.is_valid.Tie as tie
-use Rattle.state_area.proofs.is_valid.Reads as reads
-use Rattle.state_area.proofs.is_valid.Lts as lts
-use Rattle.geometry.proofs.least.Reads as least-reads
-use Rattle.state.proofs.word.all_are.Reads as all-are-reads
 
 -- src/lib.rt:39:33
 cast-ws : tie.Need-cast-ws

@@ -4,10 +4,6 @@ use mathlib.Core.Path.{_∙_, ap}
 use borrow.Author.Needs.{needs}
 use Rattle.state_area.proofs.magic_is.Statement.{statement}
 use Rattle.state_area.proofs.magic_is.Tie as tie
-use Rattle.state_area.proofs.magic_is.Reads as reads
-use Rattle.state_area.proofs.magic_is.Lts as lts
-use Rattle.geometry.proofs.least.Reads as least-reads
-use Rattle.state.proofs.word.all_are.Reads as all-are-reads
 
 -- src/lib.rt:23:31
 cast-ws : tie.Need-cast-ws

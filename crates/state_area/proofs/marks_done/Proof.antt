@@ -3,9 +3,6 @@ use native.Mathlib.Omega.{arith}
 use borrow.Author.Needs.{needs}
 use Rattle.state_area.proofs.marks_done.Statement.{statement}
 use Rattle.state_area.proofs.marks_done.Tie as tie
-use Rattle.state_area.proofs.marks_done.Reads as reads
-use Rattle.state_area.proofs.marks_done.Lts as lts
-use Rattle.state_area.proofs.first_open.Reads as first-open-reads
 
 -- src/lib.rt:77:14
 cast-ws : tie.Need-cast-ws

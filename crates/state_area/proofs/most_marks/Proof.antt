@@ -4,9 +4,6 @@ use mathlib.Core.Path.{sym}
 use borrow.Author.Needs.{needs}
 use Rattle.state_area.proofs.most_marks.Statement.{statement}
 use Rattle.state_area.proofs.most_marks.Tie as tie
-use Rattle.state_area.proofs.most_marks.Reads as reads
-use Rattle.state_area.proofs.most_marks.Lts as lts
-use Rattle.geometry.proofs.least.Reads as least-reads
 
 -- src/lib.rt:49:14
 cast-ws : tie.Need-cast-ws

@@ -5,11 +5,6 @@ use mathlib.Core.Path.{_∙_, sym}
 use borrow.Author.Needs.{needs}
 use Rattle.state_area.proofs.progress.Statement.{statement}
 use Rattle.state_area.proofs.progress.Tie as tie
-use Rattle.state_area.proofs.progress.Reads as reads
-use Rattle.state_area.proofs.progress.Lts as lts
-use Rattle.state_area.proofs.is_valid.Reads as is-valid-reads
-use Rattle.state_area.proofs.marks_done.Reads as marks-done-reads
-use Rattle.state_area.proofs.most_marks.Reads as most-marks-reads
 
 -- src/lib.rt:92:9
 is-valid-requires : tie.Need-is-valid-requires

@@ -5,10 +5,6 @@ use mathlib.Core.Path.{_∙_, ap}
 use borrow.Author.Needs.{needs}
 use Rattle.state_area.proofs.read.Statement.{statement}
 use Rattle.state_area.proofs.read.Tie as tie
-use Rattle.state_area.proofs.read.Reads as reads
-use Rattle.state_area.proofs.read.Lts as lts
-use Rattle.geometry.proofs.least.Reads as least-reads
-use Rattle.state.proofs.State.from.Reads as from-reads
 
 -- src/lib.rt:31:31
 cast-ws : tie.Need-cast-ws

@@ -2,10 +2,6 @@ use Rattle.state_area.proofs.Changes.{renew-cut, renew-on}
 use borrow.Author.Needs.{needs}
 use Rattle.state_area.proofs.renew.Statement.{statement}
 use Rattle.state_area.proofs.renew.Tie as tie
-use Rattle.state_area.proofs.renew.Reads as reads
-use Rattle.state_area.proofs.renew.Lts as lts
-use Rattle.mem_flash.proofs.erase.Reads as erase-reads
-use Rattle.mem_flash.proofs.write_word.Reads as write-word-reads
 
 -- src/lib.rt:111:72
 cast-erase : tie.Need-cast-erase

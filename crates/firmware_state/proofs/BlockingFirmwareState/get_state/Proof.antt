@@ -8,10 +8,6 @@ use Rattle.rules.proofs.Did.{verdict-admitted, did-refused, did-nothing}
 use borrow.Author.Needs.{needs}
 use Rattle.firmware_state.proofs.BlockingFirmwareState.get_state.Statement.{statement}
 use Rattle.firmware_state.proofs.BlockingFirmwareState.get_state.Tie as tie
-use Rattle.firmware_state.proofs.BlockingFirmwareState.get_state.Reads as reads
-use Rattle.firmware_state.proofs.BlockingFirmwareState.get_state.Lts as lts
-use Rattle.geometry.proofs.state_verdict.Reads as state-verdict-reads
-use Rattle.state_area.proofs.read.Reads as read-reads
 
 -- src/lib.rt:243:13
 state-verdict-requires : tie.Need-state-verdict-requires

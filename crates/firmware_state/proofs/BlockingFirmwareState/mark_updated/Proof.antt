@@ -5,10 +5,6 @@ use Rattle.rules.specs.FirmwareState.{mark}
 use borrow.Author.Needs.{needs}
 use Rattle.firmware_state.proofs.BlockingFirmwareState.mark_updated.Statement.{statement}
 use Rattle.firmware_state.proofs.BlockingFirmwareState.mark_updated.Tie as tie
-use Rattle.firmware_state.proofs.BlockingFirmwareState.mark_updated.Reads as reads
-use Rattle.firmware_state.proofs.BlockingFirmwareState.mark_updated.Lts as lts
-use Rattle.firmware_state.proofs.BlockingFirmwareState.mark.Reads as mark-reads
-use Rattle.geometry.proofs.state_verdict.Reads as state-verdict-reads
 
 -- src/lib.rt:254:13
 state-verdict-requires : tie.Need-state-verdict-requires

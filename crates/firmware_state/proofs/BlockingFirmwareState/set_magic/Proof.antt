@@ -3,12 +3,6 @@ use Rattle.firmware_state.proofs.Answers.{magic-there, magic-renew, mag
 use borrow.Author.Needs.{needs}
 use Rattle.firmware_state.proofs.BlockingFirmwareState.set_magic.Statement.{statement}
 use Rattle.firmware_state.proofs.BlockingFirmwareState.set_magic.Tie as tie
-use Rattle.firmware_state.proofs.BlockingFirmwareState.set_magic.Reads as reads
-use Rattle.firmware_state.proofs.BlockingFirmwareState.set_magic.Lts as lts
-use Rattle.state_area.proofs.invalidate.Reads as invalidate-reads
-use Rattle.state_area.proofs.is_valid.Reads as is-valid-reads
-use Rattle.state_area.proofs.magic_is.Reads as magic-is-reads
-use Rattle.state_area.proofs.renew.Reads as renew-reads
 
 -- src/lib.rt:293:12
 magic-is-requires : tie.Need-magic-is-requires

@@ -5,9 +5,6 @@ use Rattle.firmware_state.proofs.BlockingFirmwareState.verify_booted.St
   statement,
 }
 use Rattle.firmware_state.proofs.BlockingFirmwareState.verify_booted.Tie as tie
-use Rattle.firmware_state.proofs.BlockingFirmwareState.verify_booted.Reads as reads
-use Rattle.firmware_state.proofs.BlockingFirmwareState.verify_booted.Lts as lts
-use Rattle.state_area.proofs.read.Reads as read-reads
 
 -- src/lib.rt:231:13
 read-requires : tie.Need-read-requires

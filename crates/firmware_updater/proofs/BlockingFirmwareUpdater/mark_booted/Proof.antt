@@ -2,7 +2,7 @@
 use mathlib.Core.Bool.{false}
 use Rattle.state.specs.declared.State.the-variants.{Boot}
 use Rattle.rules.specs.FirmwareUpdater.{updaterMarkBooted}
-use Rattle.firmware_updater.proofs.Answers.{marked}
+use Rattle.firmware_updater.proofs.Answers.{mark-did}
 use borrow.Author.Needs.{needs}
 use Rattle.firmware_updater.proofs.BlockingFirmwareUpdater.mark_booted.Statement.{statement}
 use Rattle.firmware_updater.proofs.BlockingFirmwareUpdater.mark_booted.Tie as tie
@@ -25,7 +25,7 @@ returns c =
     let m = c .before .before in
     let j = m .before .before .before in
     let a = j .before .before .before .args in
-    marked Boot false (a .self .sizes) (a .dfu .now) (a .state .now) _ _ (m .mark .ensures) (m .before .before .state .ensures) (j .updater-verdict .ensures)
+    mark-did Boot false (a .self .sizes) (a .dfu .now) (a .state .now) _ _ (m .mark .ensures) (m .before .before .state .ensures) (j .updater-verdict .ensures)
 
 pub mark-booted-spec : {M : Type 1} → statement M
 mark-booted-spec =

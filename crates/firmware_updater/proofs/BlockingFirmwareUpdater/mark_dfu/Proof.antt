@@ -1,7 +1,7 @@
 -- `mark_dfu`: the mark of the firmware state, at the updater's verdict. Assumes nothing.
 use Rattle.state.specs.declared.State.the-variants.{DfuDetach}
 use Rattle.rules.specs.FirmwareUpdater.{pending, updaterMarkDfu}
-use Rattle.firmware_updater.proofs.Answers.{marked}
+use Rattle.firmware_updater.proofs.Answers.{mark-did}
 use borrow.Author.Needs.{needs}
 use Rattle.firmware_updater.proofs.BlockingFirmwareUpdater.mark_dfu.Statement.{statement}
 use Rattle.firmware_updater.proofs.BlockingFirmwareUpdater.mark_dfu.Tie as tie
@@ -24,7 +24,7 @@ returns c =
     let m = c .before .before in
     let j = m .before .before .before in
     let a = j .before .before .before .before .args in
-    marked DfuDetach (pending (a .self .sizes .state) (a .state .now)) (a .self .sizes) (a .dfu .now) (a .state .now) _ _ (m .mark .ensures) (m .before .before .state .ensures) (j .booted-verdict .ensures)
+    mark-did DfuDetach (pending (a .self .sizes .state) (a .state .now)) (a .self .sizes) (a .dfu .now) (a .state .now) _ _ (m .mark .ensures) (m .before .before .state .ensures) (j .booted-verdict .ensures)
 
 pub mark-dfu-spec : {M : Type 1} → statement M
 mark-dfu-spec =

@@ -3,8 +3,6 @@ use Rattle.geometry.specs.Geometry.{page}
 use borrow.Author.Needs.{needs}
 use Rattle.geometry.proofs.Geometry.page_size.Statement.{statement}
 use Rattle.geometry.proofs.Geometry.page_size.Tie as tie
-use Rattle.geometry.proofs.Geometry.page_size.Reads as reads
-use Rattle.geometry.proofs.Geometry.page_size.Lts as lts
 
 -- src/lib.rt:72:13
 cast-result : tie.Need-cast-result

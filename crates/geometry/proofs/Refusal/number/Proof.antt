@@ -2,8 +2,6 @@ use Rattle.geometry.specs.Refusals.{number}
 use borrow.Author.Needs.{needs}
 use Rattle.geometry.proofs.Refusal.number.Statement.{statement}
 use Rattle.geometry.proofs.Refusal.number.Tie as tie
-use Rattle.geometry.proofs.Refusal.number.Reads as reads
-use Rattle.geometry.proofs.Refusal.number.Lts as lts
 
 -- src/lib.rt:56:31
 enum-told : tie.Need-enum-told

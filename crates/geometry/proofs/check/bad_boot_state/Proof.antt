@@ -5,11 +5,6 @@ use native.Mathlib.Omega.{arith}
 use borrow.Author.Needs.{needs}
 use Rattle.geometry.proofs.check.bad_boot_state.Statement.{statement}
 use Rattle.geometry.proofs.check.bad_boot_state.Tie as tie
-use Rattle.geometry.proofs.check.bad_boot_state.Reads as reads
-use Rattle.geometry.proofs.check.bad_boot_state.Lts as lts
-use Rattle.geometry.proofs.Geometry.page_size.Reads as page-size-reads
-use Rattle.geometry.proofs.check.bad_state.Reads as bad-state-reads
-use Rattle.geometry.proofs.check.boot_words.Reads as boot-words-reads
 
 -- src/check.rt:133:18
 page-size-requires : tie.Need-page-size-requires

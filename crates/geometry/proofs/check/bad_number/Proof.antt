@@ -3,10 +3,6 @@ use Rattle.geometry.specs.Refusals.{badNumber, mostNumber}
 use borrow.Author.Needs.{needs}
 use Rattle.geometry.proofs.check.bad_number.Statement.{statement}
 use Rattle.geometry.proofs.check.bad_number.Tie as tie
-use Rattle.geometry.proofs.check.bad_number.Reads as reads
-use Rattle.geometry.proofs.check.bad_number.Lts as lts
-use Rattle.geometry.proofs.check.last.Reads as last-reads
-use Rattle.geometry.proofs.check.or.Reads as or-reads
 
 -- src/check.rt:34:16
 last-requires : tie.Need-last-requires

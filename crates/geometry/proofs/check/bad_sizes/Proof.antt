@@ -2,10 +2,6 @@ use Rattle.geometry.specs.Refusals.{stateNumbers}
 use borrow.Author.Needs.{needs}
 use Rattle.geometry.proofs.check.bad_sizes.Statement.{statement}
 use Rattle.geometry.proofs.check.bad_sizes.Tie as tie
-use Rattle.geometry.proofs.check.bad_sizes.Reads as reads
-use Rattle.geometry.proofs.check.bad_sizes.Lts as lts
-use Rattle.geometry.proofs.check.bad_number.Reads as bad-number-reads
-use Rattle.geometry.proofs.check.or.Reads as or-reads
 
 -- src/check.rt:52:8
 bad-number-requires : tie.Need-bad-number-requires

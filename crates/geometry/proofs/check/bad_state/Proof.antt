@@ -4,11 +4,6 @@ use mathlib.Core.Path.{refl}
 use borrow.Author.Needs.{needs}
 use Rattle.geometry.proofs.check.bad_state.Statement.{statement}
 use Rattle.geometry.proofs.check.bad_state.Tie as tie
-use Rattle.geometry.proofs.check.bad_state.Reads as reads
-use Rattle.geometry.proofs.check.bad_state.Lts as lts
-use Rattle.geometry.proofs.check.last.Reads as last-reads
-use Rattle.geometry.proofs.check.or.Reads as or-reads
-use Rattle.geometry.proofs.check.uneven.Reads as uneven-reads
 
 -- src/check.rt:115:14
 cast-es : tie.Need-cast-es

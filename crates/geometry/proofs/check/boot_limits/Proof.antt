@@ -2,13 +2,6 @@ use Rattle.geometry.specs.Refusals.{outside, bootNumbers}
 use borrow.Author.Needs.{needs}
 use Rattle.geometry.proofs.check.boot_limits.Statement.{statement}
 use Rattle.geometry.proofs.check.boot_limits.Tie as tie
-use Rattle.geometry.proofs.check.boot_limits.Reads as reads
-use Rattle.geometry.proofs.check.boot_limits.Lts as lts
-use Rattle.geometry.proofs.check.bad_number.Reads as bad-number-reads
-use Rattle.geometry.proofs.check.bad_sizes.Reads as bad-sizes-reads
-use Rattle.geometry.proofs.check.last.Reads as last-reads
-use Rattle.geometry.proofs.check.or.Reads as or-reads
-use Rattle.geometry.proofs.check.too_long.Reads as too-long-reads
 
 -- src/check.rt:59:22
 too-long-requires : tie.Need-too-long-requires

@@ -3,8 +3,6 @@ use Rattle.geometry.specs.Refusals.{mostLength, bootWords}
 use borrow.Author.Needs.{needs}
 use Rattle.geometry.proofs.check.boot_words.Statement.{statement}
 use Rattle.geometry.proofs.check.boot_words.Tie as tie
-use Rattle.geometry.proofs.check.boot_words.Reads as reads
-use Rattle.geometry.proofs.check.boot_words.Lts as lts
 
 -- src/check.rt:115:5
 mul-result : tie.Need-mul-result

@@ -2,8 +2,6 @@ use mathlib.Core.Path.{_∙_, sym}
 use Rattle.geometry.proofs.Tests.{any-one}
 use Rattle.geometry.proofs.check.last.Statement.{statement}
 use Rattle.geometry.proofs.check.last.Tie as tie
-use Rattle.geometry.proofs.check.last.Reads as reads
-use Rattle.geometry.proofs.check.last.Lts as lts
 
 -- src/check.rt:25:1
 returns : tie.Need-returns

@@ -2,8 +2,6 @@ use mathlib.Core.Path.{_∙_, sym}
 use Rattle.geometry.proofs.Tests.{any-first, any-later}
 use Rattle.geometry.proofs.check.or.Statement.{statement}
 use Rattle.geometry.proofs.check.or.Tie as tie
-use Rattle.geometry.proofs.check.or.Reads as reads
-use Rattle.geometry.proofs.check.or.Lts as lts
 
 -- src/check.rt:14:1
 returns : tie.Need-returns

@@ -2,11 +2,6 @@ use Rattle.geometry.specs.Refusals.{outside}
 use borrow.Author.Needs.{needs}
 use Rattle.geometry.proofs.check.state_limits.Statement.{statement}
 use Rattle.geometry.proofs.check.state_limits.Tie as tie
-use Rattle.geometry.proofs.check.state_limits.Reads as reads
-use Rattle.geometry.proofs.check.state_limits.Lts as lts
-use Rattle.geometry.proofs.check.bad_sizes.Reads as bad-sizes-reads
-use Rattle.geometry.proofs.check.last.Reads as last-reads
-use Rattle.geometry.proofs.check.too_long.Reads as too-long-reads
 
 -- src/check.rt:69:23
 too-long-requires : tie.Need-too-long-requires

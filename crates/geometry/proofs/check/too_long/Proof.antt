@@ -2,8 +2,6 @@ use mathlib.Core.Path.{refl}
 use Rattle.geometry.specs.Refusals.{tooLong, mostLength}
 use Rattle.geometry.proofs.check.too_long.Statement.{statement}
 use Rattle.geometry.proofs.check.too_long.Tie as tie
-use Rattle.geometry.proofs.check.too_long.Reads as reads
-use Rattle.geometry.proofs.check.too_long.Lts as lts
 
 -- src/check.rt:37:1
 returns : tie.Need-returns

@@ -3,8 +3,6 @@ use Rattle.geometry.specs.Refusals.{uneven}
 use borrow.Author.Needs.{needs}
 use Rattle.geometry.proofs.check.uneven.Statement.{statement}
 use Rattle.geometry.proofs.check.uneven.Tie as tie
-use Rattle.geometry.proofs.check.uneven.Reads as reads
-use Rattle.geometry.proofs.check.uneven.Lts as lts
 
 -- src/check.rt:48:5
 rem-result : tie.Need-rem-result

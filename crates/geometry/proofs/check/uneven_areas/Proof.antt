@@ -5,12 +5,6 @@ use Rattle.geometry.proofs.Tests.{page-some, page-most}
 use borrow.Author.Needs.{needs}
 use Rattle.geometry.proofs.check.uneven_areas.Statement.{statement}
 use Rattle.geometry.proofs.check.uneven_areas.Tie as tie
-use Rattle.geometry.proofs.check.uneven_areas.Reads as reads
-use Rattle.geometry.proofs.check.uneven_areas.Lts as lts
-use Rattle.geometry.proofs.Geometry.page_size.Reads as page-size-reads
-use Rattle.geometry.proofs.check.last.Reads as last-reads
-use Rattle.geometry.proofs.check.or.Reads as or-reads
-use Rattle.geometry.proofs.check.uneven.Reads as uneven-reads
 
 -- src/check.rt:90:9
 page-size-requires : tie.Need-page-size-requires

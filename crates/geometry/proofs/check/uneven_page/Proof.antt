@@ -3,12 +3,6 @@ use mathlib.Core.Path.{refl}
 use borrow.Author.Needs.{needs}
 use Rattle.geometry.proofs.check.uneven_page.Statement.{statement}
 use Rattle.geometry.proofs.check.uneven_page.Tie as tie
-use Rattle.geometry.proofs.check.uneven_page.Reads as reads
-use Rattle.geometry.proofs.check.uneven_page.Lts as lts
-use Rattle.geometry.proofs.Geometry.page_size.Reads as page-size-reads
-use Rattle.geometry.proofs.check.last.Reads as last-reads
-use Rattle.geometry.proofs.check.or.Reads as or-reads
-use Rattle.geometry.proofs.check.uneven.Reads as uneven-reads
 
 -- src/check.rt:88:9
 page-size-requires : tie.Need-page-size-requires

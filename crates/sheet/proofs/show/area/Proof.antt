@@ -1,14 +1,8 @@
-use mathlib.Core.Path.{_≡_}
 use Prim.Native.Nat.{_≤_, _-_}
-use native.Mathlib.Omega.{arith}
-use lib.ListN.{length, length-set}
+use lib.ListN.{length}
 use borrow.Author.Needs.{needs}
 use Rattle.sheet.proofs.show.area.Statement.{statement}
 use Rattle.sheet.proofs.show.area.Tie as tie
-use Rattle.sheet.proofs.show.area.Reads as reads
-use Rattle.sheet.proofs.show.area.Lts as lts
-use Rattle.sheet.proofs.show.hex.Reads as hex-reads
-use Rattle.sheet.proofs.show.text.Reads as text-reads
 
 abbrev Inv-loop : tie.InvT-loop
 Inv-loop name bytes i₀ t4 i = i ≤ length bytes

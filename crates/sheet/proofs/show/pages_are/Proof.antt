@@ -1,12 +1,8 @@
-use mathlib.Core.Path.{_≡_}
 use Prim.Native.Nat.{_≤_, _-_}
 use lib.ListN.{length}
 use borrow.Author.Needs.{needs}
 use Rattle.sheet.proofs.show.pages_are.Statement.{statement}
 use Rattle.sheet.proofs.show.pages_are.Tie as tie
-use Rattle.sheet.proofs.show.pages_are.Reads as reads
-use Rattle.sheet.proofs.show.pages_are.Lts as lts
-use Rattle.sheet.proofs.show.page_byte.Reads as page-byte-reads
 
 abbrev Inv-loop : tie.InvT-loop
 Inv-loop area pages i₀ i = i ≤ length area

@@ -3,9 +3,6 @@ use Rattle.state.proofs.States.{is-swap, is-revert, is-detach, is-boot}
 use borrow.Author.Needs.{needs}
 use Rattle.state.proofs.State.from.Statement.{statement}
 use Rattle.state.proofs.State.from.Tie as tie
-use Rattle.state.proofs.State.from.Reads as reads
-use Rattle.state.proofs.State.from.Lts as lts
-use Rattle.state.proofs.word.all_are.Reads as all-are-reads
 
 -- src/lib.rt:63:12
 all-are-requires : tie.Need-all-are-requires
@@ -29,11 +26,19 @@ all-are-requires-3 c κs = search needs
 
 -- src/lib.rt:70:13
 returns-3 : tie.Need-returns-3
-returns-3 c = is-detach _ (sym (c .before .before .before .before .before .all-are .ensures) ∙ c .before .before .before .before .if1 .left) (sym (c .before .before .before .all-are2 .ensures) ∙ c .before .before .if2 .left) (sym (c .before .all-are3 .ensures) ∙ c .if3 .taken)
+returns-3 c =
+    let second = c .before .before in
+    let first = second .before .before in
+    is-detach _ (sym (first .before .all-are .ensures) ∙ first .if1 .left) (sym (second .before .all-are2 .ensures) ∙ second .if2 .left)
+    (sym (c .before .all-are3 .ensures) ∙ c .if3 .taken)
 
 -- src/lib.rt:60:5
 returns-4 : tie.Need-returns-4
-returns-4 c = is-boot _ (sym (c .before .before .before .before .before .all-are .ensures) ∙ c .before .before .before .before .if1 .left) (sym (c .before .before .before .all-are2 .ensures) ∙ c .before .before .if2 .left) (sym (c .before .all-are3 .ensures) ∙ c .if3 .left)
+returns-4 c =
+    let second = c .before .before in
+    let first = second .before .before in
+    is-boot _ (sym (first .before .all-are .ensures) ∙ first .if1 .left) (sym (second .before .all-are2 .ensures) ∙ second .if2 .left)
+    (sym (c .before .all-are3 .ensures) ∙ c .if3 .left)
 
 pub from-spec : {M : Type 1} → statement M
 from-spec =

@@ -1,10 +1,7 @@
 use Rattle.state.proofs.States.{is-swap, is-revert, is-detach, is-boot, one-is, one-not, one-other}
 use mathlib.Core.Path.{refl}
-use borrow.Author.Needs.{needs}
 use Rattle.state.proofs.State.from_magic.Statement.{statement}
 use Rattle.state.proofs.State.from_magic.Tie as tie
-use Rattle.state.proofs.State.from_magic.Reads as reads
-use Rattle.state.proofs.State.from_magic.Lts as lts
 
 -- src/lib.rt:48:5
 returns : tie.Need-returns

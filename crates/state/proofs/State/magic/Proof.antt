@@ -2,8 +2,6 @@ use Rattle.state.specs.Magic.{magic}
 use borrow.Author.Needs.{needs}
 use Rattle.state.proofs.State.magic.Statement.{statement}
 use Rattle.state.proofs.State.magic.Tie as tie
-use Rattle.state.proofs.State.magic.Reads as reads
-use Rattle.state.proofs.State.magic.Lts as lts
 
 -- src/lib.rt:40:28
 enum-told : tie.Need-enum-told

@@ -6,8 +6,6 @@ use Rattle.state.proofs.Words.{all-turn, all-not, all-end}
 use borrow.Author.Needs.{needs}
 use Rattle.state.proofs.word.all_are.Statement.{statement}
 use Rattle.state.proofs.word.all_are.Tie as tie
-use Rattle.state.proofs.word.all_are.Reads as reads
-use Rattle.state.proofs.word.all_are.Lts as lts
 
 abbrev Inv-loop : tie.InvT-loop
 Inv-loop word value i₀ i = (i ≤ length word) × (throughout value (drop i word) ≡ throughout value word)

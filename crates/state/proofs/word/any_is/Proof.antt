@@ -6,8 +6,6 @@ use Rattle.state.proofs.Words.{any-turn, any-here, any-end}
 use borrow.Author.Needs.{needs}
 use Rattle.state.proofs.word.any_is.Statement.{statement}
 use Rattle.state.proofs.word.any_is.Tie as tie
-use Rattle.state.proofs.word.any_is.Reads as reads
-use Rattle.state.proofs.word.any_is.Lts as lts
 
 abbrev Inv-loop : tie.InvT-loop
 Inv-loop word value i₀ i = (i ≤ length word) × (holds value (drop i word) ≡ holds value word)

@@ -7,8 +7,6 @@ use Rattle.state_area.proofs.Places.{block-turn, block-end}
 use borrow.Author.Needs.{needs}
 use Rattle.state_area.proofs.search.block_has.Statement.{statement}
 use Rattle.state_area.proofs.search.block_has.Tie as tie
-use Rattle.state_area.proofs.search.block_has.Reads as reads
-use Rattle.state_area.proofs.search.block_has.Lts as lts
 
 abbrev Inv-loop : tie.InvT-loop
 Inv-loop block value has₀ i₀ has i = (i ≤ length block) × ((has || holds value (drop i block)) ≡ holds value block)

@@ -6,9 +6,6 @@ use Rattle.state_area.proofs.Places.{lacks-more}
 use borrow.Author.Needs.{needs}
 use Rattle.state_area.proofs.search.clear_blocks.Statement.{statement}
 use Rattle.state_area.proofs.search.clear_blocks.Tie as tie
-use Rattle.state_area.proofs.search.clear_blocks.Reads as reads
-use Rattle.state_area.proofs.search.clear_blocks.Lts as lts
-use Rattle.state_area.proofs.search.block_has.Reads as block-has-reads
 
 abbrev Inv-loop : tie.InvT-loop
 Inv-loop bytes from block value at₀ at = (at ≤ length bytes) × Lacks value at bytes

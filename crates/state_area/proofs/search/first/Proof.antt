@@ -5,9 +5,6 @@ use Rattle.state_area.specs.First.{Lacks}
 use borrow.Author.Needs.{needs}
 use Rattle.state_area.proofs.search.first.Statement.{statement}
 use Rattle.state_area.proofs.search.first.Tie as tie
-use Rattle.state_area.proofs.search.first.Reads as reads
-use Rattle.state_area.proofs.search.first.Lts as lts
-use Rattle.state_area.proofs.search.clear_blocks.Reads as clear-blocks-reads
 
 abbrev Inv-loop : tie.InvT-loop
 Inv-loop bytes value far i₀ i = (i ≤ length bytes) × Lacks value i bytes
