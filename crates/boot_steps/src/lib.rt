@@ -1,5 +1,5 @@
 // The steps of a swap and of a revert, and their order: boot_loader.rs from current_progress on, with the `Geometry` by value where
-// the Rust has self. A layer within the boot loader: only `boot_loader` calls it, and its proof meets what these functions ask.
+// the Rust has self. A layer within the boot loader: only `boot_choice` calls it, and its proof meets what these functions ask.
 ghost use mathlib.Core.Path.{_≡_};
 ghost use mathlib.Core.List.{[], _∷_};
 ghost use Prim.Native.Nat.{_+_, _*_, _<_, _^_};

@@ -3,8 +3,8 @@ use native.Mathlib.Omega.{arith}
 use lib.ListN.{length}
 use borrow.Author.Needs.{needs}
 use Rattle.geometry.specs.Geometry.{pages}
-use Rattle.boot_loader.proofs.BootLoader.is_swapped.Statement.{statement}
-use Rattle.boot_loader.proofs.BootLoader.is_swapped.Tie as tie
+use Rattle.boot_choice.proofs.is_swapped.Statement.{statement}
+use Rattle.boot_choice.proofs.is_swapped.Tie as tie
 
 page-size-requires : tie.Need-page-size-requires
 page-size-requires c κs = tt
@@ -17,7 +17,7 @@ current-progress-requires c κs = tt
 
 mul-result : tie.Need-mul-result
 mul-result c =
-    let s = c .before .before .before .before .before in
+    let s = c .before .before .before .before in
     omega (arith, div-le-self (length (s .args .active .now)) (c .before .page-size .result), s .good)
 
 returns : tie.Need-returns

@@ -1,9 +1,9 @@
 use mathlib.Core.Path.{refl}
 use borrow.Author.Tests.{not-true, not-false}
 use Rattle.geometry.proofs.Tests.{page-some}
-use Rattle.boot_loader.proofs.Boots.{boot-copies, boot-confirms}
-use Rattle.boot_loader.proofs.BootLoader.confirm_or_copy.Statement.{statement}
-use Rattle.boot_loader.proofs.BootLoader.confirm_or_copy.Tie as tie
+use Rattle.boot_choice.proofs.Choices.{boot-copies, boot-confirms}
+use Rattle.boot_choice.proofs.confirm_or_copy.Statement.{statement}
+use Rattle.boot_choice.proofs.confirm_or_copy.Tie as tie
 
 is-confirming-requires : tie.Need-is-confirming-requires
 is-confirming-requires c κs = let p = c .before .before .before .before .before .pre in (page-some (p .numbers), p .active-most)
@@ -38,7 +38,7 @@ same-length-5 c = c .before .before .renew .kept .0
 returns-2 : tie.Need-returns-2
 returns-2 c =
     let w = c .before .before in
-    let i = w .before .before .before in
+    let i = w .before .before in
     boot-confirms _ (i .before .is-confirming .ensures) (not-false _ (i .if1 .left)) (w .renew .ensures)
 
 pub confirm-or-copy-spec : {M : Type 1} → statement M

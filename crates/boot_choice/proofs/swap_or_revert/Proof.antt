@@ -2,19 +2,19 @@ use mathlib.Core.Path.{_∙_}
 use borrow.Author.Tests.{not-true, not-false}
 use Rattle.geometry.proofs.Tests.{page-some}
 use Rattle.mem_flash.specs.Run.{flash}
-use Rattle.boot_loader.proofs.Boots.{Reverted, reverted, boot-swap, revert-cut, invalid-cut, boot-revert}
-use Rattle.boot_loader.proofs.BootLoader.swap_or_revert.Statement.{statement}
-use Rattle.boot_loader.proofs.BootLoader.swap_or_revert.Tie as tie
+use Rattle.boot_choice.proofs.Choices.{Reverted, reverted, boot-swap, revert-cut, invalid-cut, boot-revert}
+use Rattle.boot_choice.proofs.swap_or_revert.Statement.{statement}
+use Rattle.boot_choice.proofs.swap_or_revert.Tie as tie
 
 -- from the invalidation back to the revert
 abbrev before-it : tie.After-invalidate → tie.After-revert
 before-it i = i .before .before .before .before .before .before .before .before .before .before .before
 
 is-swapped-requires : tie.Need-is-swapped-requires
-is-swapped-requires c κs = page-some (c .before .before .before .before .before .before .pre .numbers)
+is-swapped-requires c κs = page-some (c .before .before .before .before .before .pre .numbers)
 
 swap-requires : tie.Need-swap-requires
-swap-requires c κs = c .before .before .before .before .before .before .before .before .before .before .before .pre
+swap-requires c κs = c .before .before .before .before .before .before .before .before .before .before .pre
 
 same-length : tie.Need-same-length
 same-length c = c .before .before .before .before .before .before .swap .kept .1 .0
@@ -32,7 +32,7 @@ returns c =
     boot-swap _ (i .before .is-swapped .ensures) (not-true _ (i .if1 .taken)) (w .swap .ensures)
 
 revert-requires : tie.Need-revert-requires
-revert-requires c κs = c .before .before .before .before .before .before .before .before .before .before .before .pre
+revert-requires c κs = c .before .before .before .before .before .before .before .before .before .before .pre
 
 enum-known-second : tie.Need-enum-known-second
 enum-known-second c = c .match .keys1
@@ -50,8 +50,8 @@ same-length-6 : tie.Need-same-length-6
 same-length-6 c = c .before .before .before .before .before .before .before .before .revert .kept .1 .1 .1 .0
 
 -- the images were swapped, and the revert has run
-ran : (c : tie.After-revert) → let a = c .before .before .before .before .before .before .before .before .before .before .before .before .args in
-    Reverted (a .self .geometry) (a .left .0) (flash (a .active .now) (a .dfu .now) (a .state .now))
+ran : (c : tie.After-revert) → let a = c .before .before .before .before .before .before .before .before .before .before .before .args in
+    Reverted (a .g) (a .left .0) (flash (a .active .now) (a .dfu .now) (a .state .now))
     (flash (c .revert .last .1 .0) (c .revert .last .1 .1 .0) (c .revert .last .1 .1 .1 .0)) (c .revert .result)
 ran c =
     let i = c .before .before .before .before in
