@@ -8,7 +8,7 @@ use native.Mathlib.Nat.{add-suc, le-of-suc-le-suc, not-suc-le-zero, mod-eq-of-lt
 use native.Mathlib.Decide.{decLe}
 use native.Mathlib.Numerals.{add-one}
 use native.Mathlib.Omega.{arith}
-use lib.Bits.{bitAnd, and-mask, and-comm, and-zero-r, and-lt}
+use lib.Bits.{bitAnd, and-mask, and-comm, and-zero-r}
 use lib.ListN.{length, getD, take, drop, set, replicate, take-append-drop, length-drop, length-replicate, drop-of-length-le}
 use lib.Seq.{drop-cons, take-all}
 use Rattle.state.specs.Magic.{erased, marked}
@@ -150,8 +150,3 @@ programmed-marked b = and-zero-r b
 pub marked-not-erased : marked ≡ erased → ⊥
 unfolding marked erased
 marked-not-erased e = omega arith
-
--- a byte stays a byte
-pub programmed-byte : (a b : ℕ) → a < 2 ^ 8 → b < 2 ^ 8 → programmed a b < 2 ^ 8
-unfolding programmed
-programmed-byte a b h k = and-lt 8 a b h k

@@ -3,11 +3,10 @@
 use mathlib.Core.Path.{_≡_, refl, ap, _∙_, sym}
 use mathlib.Core.Bool.{Bool, true, false}
 use mathlib.Core.List.{List, [], _∷_, _++_}
-use Prim.Native.Nat.{ℕ, suc, _+_, _-_, _*_, _≤_, _<_}
+use Prim.Native.Nat.{ℕ, suc, _+_, _-_, _≤_, _<_}
 use native.Mathlib.Numerals.{add-one}
 use native.Mathlib.Omega.{arith}
 use lib.Dec.{eqb}
-use lib.ListN.{take, drop}
 use borrow.Author.Tests.{eq-eqb}
 use Rattle.state.specs.Choice.{pick}
 use Rattle.state.specs.Magic.{erased, holds}
@@ -30,13 +29,6 @@ holds-within v (x ∷ xs) ys = rw (holds-within v xs ys) (pick-true (eqb x v))
 pub mark-open : (z : StateSizes) (i : ℕ) (st xs ys : List ℕ) → word z (2 + i) st ≡ xs ++ (erased ∷ ys) → markOpen z st i ≡ true
 unfolding markOpen
 mark-open z i st xs ys e = ap (holds erased) e ∙ holds-within erased xs ys
-
--- a word as a part of the area that starts at its offset
-pub word-part : (z : StateSizes) (i at : ℕ) (st : List ℕ) → at ≡ i * z .ws → take (at + z .ws - at) (drop at st) ≡ word z i st
-unfolding word
-word-part z i at st e =
-    let n : at + z .ws - at ≡ z .ws = omega arith in
-    rw (n, e)
 
 -- ---- the progress
 
