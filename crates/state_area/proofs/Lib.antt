@@ -1,4 +1,3 @@
 pub mod Words
 pub mod Changes
 pub mod Marks
-pub mod Places

@@ -13,8 +13,8 @@ use Rattle.geometry.specs.declared.StateSizes.{StateSizes}
 use Rattle.geometry.specs.Geometry.{words}
 use Rattle.rules.specs.StateArea.{word, valid, markOpen, mostMarks, firstOpen, marksDone, progress}
 use Rattle.rules.proofs.StateWords.{open-here, open-turn, open-end, progress-invalid, progress-valid}
-use Rattle.state_area.specs.First.{First}
-use Rattle.state_area.proofs.Places.{holds-at, holds-not}
+use Rattle.byte_search.specs.First.{First}
+use Rattle.byte_search.proofs.Places.{holds-at, holds-not}
 
 -- ---- how many marks are read
 

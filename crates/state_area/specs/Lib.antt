@@ -1,2 +1,1 @@
 pub mod Area
-pub mod First

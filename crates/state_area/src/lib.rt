@@ -14,8 +14,6 @@ use mem_flash::Budget;
 use mem_flash::Flow;
 use state::State;
 
-mod search;
-
 // Whether each byte of word 0 is `value`.
 pub fn magic_is(state: &[u8], z: StateSizes, value: u8) -> bool
     ensures { λ r. ⌜ r ≡ throughout value (word z 0 (now (state .entry))) ⌝ }
@@ -70,7 +68,7 @@ fn first_open(state: &[u8], z: StateSizes) -> usize
         return 0;
     }
     let end = start + most_marks(state.len(), z) * ws;
-    search::first(&state[start..end], State::ERASE_VALUE) / ws
+    byte_search::first(&state[start..end], State::ERASE_VALUE) / ws
 }
 
 // The leading done marks, whether they count or not.

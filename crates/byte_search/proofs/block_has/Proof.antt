@@ -3,10 +3,10 @@ use mathlib.Core.Bool.{_||_}
 use Prim.Native.Nat.{_≤_, _-_}
 use lib.ListN.{length, drop}
 use Rattle.state.specs.Magic.{holds}
-use Rattle.state_area.proofs.Places.{block-turn, block-end}
+use Rattle.byte_search.proofs.Places.{block-turn, block-end}
 use borrow.Author.Needs.{needs}
-use Rattle.state_area.proofs.search.block_has.Statement.{statement}
-use Rattle.state_area.proofs.search.block_has.Tie as tie
+use Rattle.byte_search.proofs.block_has.Statement.{statement}
+use Rattle.byte_search.proofs.block_has.Tie as tie
 
 abbrev Inv-loop : tie.InvT-loop
 Inv-loop block value has₀ i₀ has i = (i ≤ length block) × ((has || holds value (drop i block)) ≡ holds value block)
@@ -14,27 +14,27 @@ Inv-loop block value has₀ i₀ has i = (i ≤ length block) × ((has || holds 
 abbrev μ-loop : tie.MeasureT-loop
 μ-loop block value has₀ i₀ has i = length block - i
 
--- src/search.rt:17:5
+-- src/lib.rt:20:5
 loop-holds : tie.Need-loop-holds Inv-loop μ-loop
 loop-holds c = search needs
 
--- src/search.rt:18:22
+-- src/lib.rt:21:22
 shared-slice-read-has : tie.Need-shared-slice-read-has Inv-loop μ-loop
 shared-slice-read-has c = search needs
 
--- src/search.rt:19:9
+-- src/lib.rt:22:9
 add-i : tie.Need-add-i Inv-loop μ-loop
 add-i c = search needs
 
--- src/search.rt:17:5
+-- src/lib.rt:20:5
 loop-less : tie.Need-loop-less Inv-loop μ-loop
 loop-less c = search needs
 
--- src/search.rt:17:5
+-- src/lib.rt:20:5
 loop-again : tie.Need-loop-again Inv-loop μ-loop
 loop-again c = let a = c .before .before .before .args in (search needs, block-turn _ (a .value) (c .before .before .loop .has) (a .block .now) (c .before .loop-test .taken) ∙ c .before .before .loop .inv .1)
 
--- src/search.rt:12:1
+-- src/lib.rt:15:1
 returns : tie.Need-returns Inv-loop μ-loop
 returns c = let a = c .before .before .args in block-end _ (a .value) (c .before .loop .has) (a .block .now) (c .loop-test .left) ∙ c .before .loop .inv .1
 

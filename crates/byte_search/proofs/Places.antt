@@ -1,6 +1,6 @@
 -- Laws of the search for a byte: of a block asked all at once, and of the blocks passed over. Assumes nothing.
 use mathlib.Core.Path.{_≡_, refl, sym}
-use mathlib.Core.Bool.{Bool, true, false, _||_}
+use mathlib.Core.Bool.{Bool, true, false, _||_, or-true, or-false, or-assoc}
 use mathlib.Core.List.{List, [], _∷_}
 use Prim.Native.Nat.{ℕ, zero, suc, _+_, _-_, _≤_, _<_}
 use native.Mathlib.Numerals.{add-one}
@@ -13,25 +13,19 @@ use borrow.Author.Tests.{eq-eqb, ne-eqb}
 use Rattle.state.specs.Choice.{pick}
 use Rattle.state.specs.Magic.{holds}
 use Rattle.state.proofs.Words.{any-end}
-use Rattle.rules.proofs.StateWords.{pick-true}
-use Rattle.state_area.specs.First.{Lacks}
+use Rattle.byte_search.specs.First.{Lacks}
 
 -- ---- a block: the answer so far, or what the rest holds
 
-or-false : (b : Bool) → (b || false) ≡ b
-or-false true = refl
-or-false false = refl
-
-or-pick : (b a r : Bool) → ((b || a) || r) ≡ (b || pick a true r)
+pick-or : (a r : Bool) → pick a true r ≡ (a || r)
 unfolding pick
-or-pick true a r = refl
-or-pick false true r = refl
-or-pick false false r = refl
+pick-or true r = refl
+pick-or false r = refl
 
 pub block-turn : (i v : ℕ) (has : Bool) (xs : List ℕ) → i < length xs
     → ((has || eqb (getD xs i 0) v) || holds v (drop (i + 1) xs)) ≡ (has || holds v (drop i xs))
 unfolding holds
-block-turn i v has xs h = rw (add-one, drop-cons xs i 0 h) (or-pick has (eqb (getD xs i 0) v) (holds v (drop (suc i) xs)))
+block-turn i v has xs h = rw (add-one, drop-cons xs i 0 h, pick-or) (or-assoc has (eqb (getD xs i 0) v) (holds v (drop (suc i) xs)))
 
 pub block-end : (i v : ℕ) (has : Bool) (xs : List ℕ) → length xs ≤ i → has ≡ (has || holds v (drop i xs))
 block-end i v has xs h = sym (rw (any-end i v xs h) (or-false has))
@@ -39,10 +33,10 @@ block-end i v has xs h = sym (rw (any-end i v xs h) (or-false has))
 -- ---- a byte that stands somewhere, and one that stands nowhere
 
 pub holds-at : (v : ℕ) (xs : List ℕ) (k : ℕ) → k < length xs → getD xs k 0 ≡ v → holds v xs ≡ true
-unfolding holds pick
+unfolding holds
 holds-at v [] k h e = absurd (omega arith)
-holds-at v (x ∷ xs) zero h e = rw (eq-eqb x v e)
-holds-at v (x ∷ xs) (suc k) h e = rw (holds-at v xs k (omega arith) e) (pick-true (eqb x v))
+holds-at v (x ∷ xs) zero h e = rw (pick-or, eq-eqb x v e)
+holds-at v (x ∷ xs) (suc k) h e = rw (pick-or, holds-at v xs k (omega arith) e) (or-true (eqb x v))
 
 pub holds-not : (v : ℕ) (xs : List ℕ) → Lacks v (length xs) xs → holds v xs ≡ false
 unfolding holds pick

@@ -4,7 +4,7 @@ ghost use mathlib.Core.Path.{_≡_};
 ghost use Prim.Native.Nat.{_≤_, _<_};
 ghost use lib.ListN.{length};
 ghost use Rattle.state.specs.Magic.{holds};
-ghost use Rattle.state_area.specs.First.{Lacks, First};
+ghost use Rattle.byte_search.specs.First.{Lacks, First};
 
 // So many bytes are looked at at once: wide blocks while there is nothing in them, then narrow ones in the wide one that is left.
 const WIDE: usize = 64;
@@ -41,7 +41,7 @@ fn clear_blocks(bytes: &[u8], from: usize, block: usize, value: u8) -> usize
 }
 
 // The place of the first byte that is `value`, or the length where none is.
-pub(crate) fn first(bytes: &[u8], value: u8) -> usize
+pub fn first(bytes: &[u8], value: u8) -> usize
     ensures { λ r. ⌜ First value (now (bytes .entry)) r ⌝ }
 {
     let far = clear_blocks(bytes, 0, WIDE, value);
