@@ -55,7 +55,7 @@ pub fn set_up(g: Geometry, l: Lengths, active: &mut [u8; MOST], dfu: &mut [u8; M
     ensures { λ r. ⌜ (r .g ≡ g) × (r .l ≡ l)
         × Begun g l (now (active .entry)) (now (dfu .entry)) (now (active .exit)) (now (dfu .exit)) (r .verdict) ⌝ }
 {
-    let verdict = geometry::boot_verdict(g, l.active, l.dfu, l.state);
+    let verdict = verdicts::boot_verdict(g, l.active, l.dfu, l.state);
     let Verdict::Admitted = verdict else {
         return Setup { g, l, verdict };
     };

@@ -36,7 +36,7 @@ impl BootLoader {
             (flash (now (active .exit)) (now (dfu .exit)) (now (state .exit))) r ⌝ }
     {
         let g = self.geometry;
-        let verdict = geometry::boot_verdict(g, active.len(), dfu.len(), state.len());
+        let verdict = verdicts::boot_verdict(g, active.len(), dfu.len(), state.len());
         if let Verdict::Refused(why) = verdict {
             return Answer::Refused(why);
         }
@@ -57,7 +57,7 @@ impl BootLoader {
         ensures { λ r. ⌜ reported r ≡ report (getState (self .geometry .state) (now (state .entry))) 0 ⌝ }
     {
         let g = self.geometry;
-        let verdict = geometry::state_verdict(g.state, state.len());
+        let verdict = verdicts::state_verdict(g.state, state.len());
         if let Verdict::Refused(why) = verdict {
             return Answer::Refused(why);
         }

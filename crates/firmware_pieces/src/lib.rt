@@ -18,7 +18,7 @@ use geometry::Verdict;
 pub fn booted_verdict(sizes: Sizes, ld: usize, state: &[u8]) -> Verdict
     ensures { λ r. ⌜ verdict r ≡ updaterRefusal sizes ld (length (now (state .entry))) (pending (sizes .state) (now (state .entry))) false ⌝ }
 {
-    let judged = geometry::updater_verdict(sizes, ld, state.len());
+    let judged = verdicts::updater_verdict(sizes, ld, state.len());
     if let Verdict::Refused(why) = judged {
         return Verdict::Refused(why);
     }
@@ -32,7 +32,7 @@ pub fn booted_verdict(sizes: Sizes, ld: usize, state: &[u8]) -> Verdict
 pub fn write_verdict(sizes: Sizes, ld: usize, state: &[u8], offset: usize, n: usize) -> Verdict
     ensures { λ r. ⌜ verdict r ≡ updaterRefusal sizes ld (length (now (state .entry))) (pending (sizes .state) (now (state .entry))) (badRange (sizes .wd) ld offset n) ⌝ }
 {
-    let judged = geometry::updater_verdict(sizes, ld, state.len());
+    let judged = verdicts::updater_verdict(sizes, ld, state.len());
     if let Verdict::Refused(why) = judged {
         return Verdict::Refused(why);
     }

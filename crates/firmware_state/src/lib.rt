@@ -49,7 +49,7 @@ impl BlockingFirmwareState {
     pub fn get_state(self, state: &[u8]) -> Answer
         ensures { λ r. ⌜ reported r ≡ report (getState (self .sizes) (now (state .entry))) 0 ⌝ }
     {
-        let judged = geometry::state_verdict(self.sizes, state.len());
+        let judged = verdicts::state_verdict(self.sizes, state.len());
         if let Verdict::Refused(why) = judged {
             return Answer::Refused(why);
         }
@@ -60,7 +60,7 @@ impl BlockingFirmwareState {
     pub fn mark_updated(self, state: &mut [u8], budget: u32) -> Answer
         ensures { λ r. ⌜ Did (mark State.Swap (self .sizes) (now (state .entry))) budget (flash [] [] (now (state .entry))) (flash [] [] (now (state .exit))) r ⌝ }
     {
-        let judged = geometry::state_verdict(self.sizes, state.len());
+        let judged = verdicts::state_verdict(self.sizes, state.len());
         self.mark(state, State::Swap, judged, budget)
     }
 
@@ -68,7 +68,7 @@ impl BlockingFirmwareState {
     pub fn mark_dfu(self, state: &mut [u8], budget: u32) -> Answer
         ensures { λ r. ⌜ Did (mark State.DfuDetach (self .sizes) (now (state .entry))) budget (flash [] [] (now (state .entry))) (flash [] [] (now (state .exit))) r ⌝ }
     {
-        let judged = geometry::state_verdict(self.sizes, state.len());
+        let judged = verdicts::state_verdict(self.sizes, state.len());
         self.mark(state, State::DfuDetach, judged, budget)
     }
 
@@ -76,7 +76,7 @@ impl BlockingFirmwareState {
     pub fn mark_booted(self, state: &mut [u8], budget: u32) -> Answer
         ensures { λ r. ⌜ Did (mark State.Boot (self .sizes) (now (state .entry))) budget (flash [] [] (now (state .entry))) (flash [] [] (now (state .exit))) r ⌝ }
     {
-        let judged = geometry::state_verdict(self.sizes, state.len());
+        let judged = verdicts::state_verdict(self.sizes, state.len());
         self.mark(state, State::Boot, judged, budget)
     }
 

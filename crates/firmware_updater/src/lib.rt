@@ -46,7 +46,7 @@ impl BlockingFirmwareUpdater {
         ensures { λ r. ⌜ reported r ≡ report (updaterGetState (self .sizes) (flash [] (now (dfu .entry)) (now (state .entry)))) 0 ⌝ }
     {
         let z = self.sizes;
-        let judged = geometry::updater_verdict(z, dfu.len(), state.len());
+        let judged = verdicts::updater_verdict(z, dfu.len(), state.len());
         if let Verdict::Refused(why) = judged {
             return Answer::Refused(why);
         }
@@ -58,7 +58,7 @@ impl BlockingFirmwareUpdater {
         ensures { λ r. ⌜ (reported r ≡ report (readDfu (self .sizes) offset (length (now (buf .entry))) (flash [] (now (dfu .entry)) (now (state .entry)))) 0)
             × (now (buf .exit) ≡ readOut (self .sizes) offset (now (buf .entry)) (flash [] (now (dfu .entry)) (now (state .entry)))) ⌝ }
     {
-        let judged = geometry::updater_verdict(self.sizes, dfu.len(), state.len());
+        let judged = verdicts::updater_verdict(self.sizes, dfu.len(), state.len());
         if let Verdict::Refused(why) = judged {
             return Answer::Refused(why);
         }
@@ -74,7 +74,7 @@ impl BlockingFirmwareUpdater {
         ensures { λ r. ⌜ Did (updaterMarkUpdated (self .sizes) (flash [] (now (dfu .entry)) (now (state .entry)))) budget
             (flash [] (now (dfu .entry)) (now (state .entry))) (flash [] (now (dfu .entry)) (now (state .exit))) r ⌝ }
     {
-        let judged = geometry::updater_verdict(self.sizes, dfu.len(), state.len());
+        let judged = verdicts::updater_verdict(self.sizes, dfu.len(), state.len());
         self.state().mark(state, State::Swap, judged, budget)
     }
 
@@ -91,7 +91,7 @@ impl BlockingFirmwareUpdater {
         ensures { λ r. ⌜ Did (updaterMarkBooted (self .sizes) (flash [] (now (dfu .entry)) (now (state .entry)))) budget
             (flash [] (now (dfu .entry)) (now (state .entry))) (flash [] (now (dfu .entry)) (now (state .exit))) r ⌝ }
     {
-        let judged = geometry::updater_verdict(self.sizes, dfu.len(), state.len());
+        let judged = verdicts::updater_verdict(self.sizes, dfu.len(), state.len());
         self.state().mark(state, State::Boot, judged, budget)
     }
 

@@ -1,12 +1,8 @@
-// The geometry of the three areas, and the refusals that stand for the Rust's assertions on it: the const block of
-// `prepare_boot` and `assert_partitions` of boot_loader.rs.
+// The geometry of the three areas, and the refusals that stand for the Rust's assertions on it. `verdicts` judges by them.
 ghost use mathlib.Core.Path.{_≡_};
-ghost use mathlib.Core.Bool.{false};
 ghost use Prim.Native.Nat.{min};
 ghost use Rattle.geometry.specs.Geometry.{page};
-ghost use Rattle.geometry.specs.Refusals.{number, verdict, bootRefusal, stateRefusal, updaterRefusal};
-
-mod check;
+ghost use Rattle.geometry.specs.Refusals.{number};
 
 // The sizes of the state area: its erase size and its write size.
 pub struct StateSizes {
@@ -96,55 +92,4 @@ pub fn least(a: usize, b: usize) -> usize
     ensures { λ r. ⌜ r ≡ min a b ⌝ }
 {
     if a < b { a } else { b }
-}
-
-// Whether prepare_boot takes this geometry with areas of these lengths.
-pub fn boot_verdict(g: Geometry, la: usize, ld: usize, ls: usize) -> Verdict
-    ensures { λ r. ⌜ verdict r ≡ bootRefusal g la ld ls ⌝ }
-{
-    if check::boot_limits(g, la, ld, ls) {
-        return Verdict::Refused(Refusal::Limit);
-    }
-    if check::uneven_page(g) {
-        return Verdict::Refused(Refusal::Page);
-    }
-    if check::uneven_areas(g, la, ld) {
-        return Verdict::Refused(Refusal::Area);
-    }
-    if check::bad_boot_state(g, la, ls) {
-        return Verdict::Refused(Refusal::StateArea);
-    }
-    Verdict::Admitted
-}
-
-// Whether a call that reads the state area alone takes these sizes and this length.
-pub fn state_verdict(z: StateSizes, ls: usize) -> Verdict
-    ensures { λ r. ⌜ verdict r ≡ stateRefusal z ls ⌝ }
-{
-    if check::state_limits(z, ls) {
-        return Verdict::Refused(Refusal::Limit);
-    }
-    if check::bad_state(2, z, ls) {
-        return Verdict::Refused(Refusal::StateArea);
-    }
-    Verdict::Admitted
-}
-
-// Whether the updater takes these sizes with areas of these lengths: rows 1 to 4. Rows 5 and 6 are asked by its calls.
-pub fn updater_verdict(z: Sizes, ld: usize, ls: usize) -> Verdict
-    ensures { λ r. ⌜ verdict r ≡ updaterRefusal z ld ls false false ⌝ }
-{
-    if check::updater_limits(z, ld, ls) {
-        return Verdict::Refused(Refusal::Limit);
-    }
-    if check::uneven(z.ed as usize, z.wd as usize) {
-        return Verdict::Refused(Refusal::Page);
-    }
-    if check::uneven(ld, z.ed as usize) {
-        return Verdict::Refused(Refusal::Area);
-    }
-    if check::bad_state(2, z.state, ls) {
-        return Verdict::Refused(Refusal::StateArea);
-    }
-    Verdict::Admitted
 }

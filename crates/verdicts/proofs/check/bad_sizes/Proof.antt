@@ -1,0 +1,31 @@
+use Rattle.geometry.specs.Refusals.{stateNumbers}
+use borrow.Author.Needs.{needs}
+use Rattle.verdicts.proofs.check.bad_sizes.Statement.{statement}
+use Rattle.verdicts.proofs.check.bad_sizes.Tie as tie
+
+-- src/check.rt:52:8
+bad-number-requires : tie.Need-bad-number-requires
+bad-number-requires c κs = search needs
+
+-- src/check.rt:52:29
+bad-number-requires-2 : tie.Need-bad-number-requires-2
+bad-number-requires-2 c κs = search needs
+
+-- src/check.rt:52:26
+or-requires : tie.Need-or-requires
+or-requires c κs = search needs
+
+-- src/check.rt:52:5
+or-requires-2 : tie.Need-or-requires-2
+or-requires-2 c κs = search needs
+
+-- src/check.rt:49:1
+returns : tie.Need-returns
+unfolding stateNumbers
+returns c =
+    λ bs e. c .or2 .ensures _ _ (c .before .before .before .bad-number .ensures) (c .before .or .ensures _ bs (c .before .before .bad-number2 .ensures) e)
+
+pub bad-sizes-spec : {M : Type 1} → statement M
+bad-sizes-spec =
+    tie.close
+    (tie.spec bad-number-requires bad-number-requires-2 or-requires or-requires-2 returns)
