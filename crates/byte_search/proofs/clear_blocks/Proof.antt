@@ -13,50 +13,39 @@ Inv-loop bytes from block value at₀ at = (at ≤ length bytes) × Lacks value 
 abbrev μ-loop : tie.MeasureT-loop
 μ-loop bytes from block value at₀ at = length bytes - at
 
--- src/lib.rt:33:5
 loop-holds : tie.Need-loop-holds Inv-loop μ-loop
 loop-holds c = search needs
 
--- src/lib.rt:33:20
 sub-loop : tie.Need-sub-loop Inv-loop μ-loop
 sub-loop c = search needs
 
--- src/lib.rt:34:19
 add-end : tie.Need-add-end Inv-loop μ-loop
 add-end c = search needs
 
--- src/lib.rt:35:22
 sub-block-has : tie.Need-sub-block-has Inv-loop μ-loop
 sub-block-has c = search needs
 
--- src/lib.rt:35:22
 part-block-has-start : tie.Need-part-block-has-start Inv-loop μ-loop
 part-block-has-start c = search needs
 
--- src/lib.rt:35:22
 part-block-has-end : tie.Need-part-block-has-end Inv-loop μ-loop
 part-block-has-end c = search needs
 
--- src/lib.rt:35:12
 block-has-requires : tie.Need-block-has-requires Inv-loop μ-loop
 block-has-requires c κs = search needs
 
--- src/lib.rt:36:13
 returns : tie.Need-returns Inv-loop μ-loop
 returns c = search needs
 
--- src/lib.rt:33:5
 loop-less : tie.Need-loop-less Inv-loop μ-loop
 loop-less c = search needs
 
--- src/lib.rt:33:5
 loop-again : tie.Need-loop-again Inv-loop μ-loop
 loop-again c =
     let a = c .before .before .before .before .before .before .args in
     let lacks = c .before .before .before .before .loop .inv .1 in
     (search needs, lacks-more (a .value) _ _ (a .bytes .now) (search needs) lacks (sym (c .before .block-has .ensures) ∙ c .if1 .left))
 
--- src/lib.rt:28:1
 returns-2 : tie.Need-returns-2 Inv-loop μ-loop
 returns-2 c = search needs
 

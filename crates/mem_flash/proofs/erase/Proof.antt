@@ -6,27 +6,21 @@ use borrow.Author.Needs.{needs}
 use Rattle.mem_flash.proofs.erase.Statement.{statement}
 use Rattle.mem_flash.proofs.erase.Tie as tie
 
--- src/lib.rt:97:9
 returns : tie.Need-returns
 returns c = erase-unitless _ _ _ _ _ (c .if1 .taken)
 
--- src/lib.rt:100:9
 returns-2 : tie.Need-returns-2
 returns-2 c = erase-nothing _ _ _ _ _ (omega (arith, c .if2 .taken))
 
--- src/lib.rt:102:31
 div-erase-units : tie.Need-div-erase-units
 div-erase-units c = search needs
 
--- src/lib.rt:102:5
 erase-units-requires : tie.Need-erase-units-requires
 erase-units-requires c κs = let a = c .before .before .before .before .before .before .before .before .args in omega (arith, div-mul-le-self (a .to .0 - a .from .0) (a .unit), c .before .before .before .if2 .left)
 
--- src/lib.rt:93:1
 same-length : tie.Need-same-length
 same-length c = search needs
 
--- src/lib.rt:93:1
 returns-3 : tie.Need-returns-3
 returns-3 c = let a = c .before .before .before .before .before .before .before .before .before .before .before .args in erase-all _ (a .unit) (a .from .0) (a .to .0 - a .from .0) _ _ _ (c .before .before .erase-units .ensures)
 

@@ -5,27 +5,21 @@ use borrow.Author.Needs.{needs}
 use Rattle.mem_flash.proofs.erase_unit.Statement.{statement}
 use Rattle.mem_flash.proofs.erase_unit.Tie as tie
 
--- src/lib.rt:70:9
 returns : tie.Need-returns
 returns c = cut-erase _ _ _ _ (c .if1 .taken)
 
--- src/lib.rt:72:9
 least-requires : tie.Need-least-requires
 least-requires c κs = search needs
 
--- src/lib.rt:73:5
 fill-requires : tie.Need-fill-requires
 fill-requires c κs = search needs
 
--- src/lib.rt:74:21
 sub-t12 : tie.Need-sub-t12
 sub-t12 c = search needs
 
--- src/lib.rt:65:1
 same-length : tie.Need-same-length
 same-length c = search needs
 
--- src/lib.rt:65:1
 returns-2 : tie.Need-returns-2
 returns-2 c = on-erase _ _ _ (search needs) _ _ (c .before .before .fill .ensures ∙ erase-clip _ _ _ _ (c .before .before .before .before .least .ensures))
 

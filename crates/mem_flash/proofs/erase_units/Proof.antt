@@ -17,31 +17,24 @@ Inv-loop area₀ from count unit at₀ still₀ i₀ area at still i = (i ≤ co
 abbrev μ-loop : tie.MeasureT-loop
 μ-loop area₀ from count unit at₀ still₀ i₀ area at still i = count - i
 
--- src/lib.rt:80:5
 loop-holds : tie.Need-loop-holds Inv-loop μ-loop
 loop-holds c = (omega arith, omega arith, search needs, λ a f. simp sub-zero)
 
--- src/lib.rt:81:19
 add-end : tie.Need-add-end Inv-loop μ-loop
 add-end c = let m = mul-le-mul-right (c .before .before .before .args .unit) (c .loop-test .taken) in omega (arith, m, c .before .loop .inv .1, c .before .before .before .pre)
 
--- src/lib.rt:82:30
 erase-unit-requires : tie.Need-erase-unit-requires Inv-loop μ-loop
 erase-unit-requires c κs = search needs
 
--- src/lib.rt:82:22
 enum-known-rest : tie.Need-enum-known-rest Inv-loop μ-loop
 enum-known-rest c = search needs
 
--- src/lib.rt:83:13
 enum-told : tie.Need-enum-told Inv-loop μ-loop
 enum-told c = search needs
 
--- src/lib.rt:83:13
 same-length : tie.Need-same-length Inv-loop μ-loop
 same-length c = search needs
 
--- src/lib.rt:83:13
 returns : tie.Need-returns Inv-loop μ-loop
 returns c = λ a f.
     let unit = c .before .before .before .before in
@@ -49,15 +42,12 @@ returns c = λ a f.
     turn .before .loop .inv .3 a f
     ∙ unit-cut _ _ _ _ _ _ _ _ _ (unit .erase-unit .ensures) (omega arith) (turn .loop-test .taken) (c .enum-told .given .1) a f
 
--- src/lib.rt:87:9
 add-i : tie.Need-add-i Inv-loop μ-loop
 add-i c = search needs
 
--- src/lib.rt:80:5
 loop-less : tie.Need-loop-less Inv-loop μ-loop
 loop-less c = search needs
 
--- src/lib.rt:80:5
 loop-again : tie.Need-loop-again Inv-loop μ-loop
 loop-again c =
     let unit = c .before .before .before .before .before in
@@ -70,11 +60,9 @@ loop-again c =
           ∙ unit-on _ _ _ _ _ _ _ _ _ (unit .erase-unit .ensures) (omega arith) (turn .loop-test .taken) _ (c .before .rest .given .1) a f,
     )
 
--- src/lib.rt:73:1
 same-length-2 : tie.Need-same-length-2 Inv-loop μ-loop
 same-length-2 c = search needs
 
--- src/lib.rt:73:1
 returns-2 : tie.Need-returns-2 Inv-loop μ-loop
 returns-2 c = λ a f. c .before .loop .inv .3 a f ∙ units-none _ _ _ _ _ (omega (arith, c .loop-test .left)) a f
 

@@ -13,31 +13,24 @@ Inv-loop area₀ from to i₀ area i = (length area ≡ length area₀) × (eras
 abbrev μ-loop : tie.MeasureT-loop
 μ-loop area₀ from to i₀ area i = to - i
 
--- src/lib.rt:36:5
 loop-holds : tie.Need-loop-holds Inv-loop μ-loop
 loop-holds c = search needs
 
--- src/lib.rt:37:9
 slice-write-area : tie.Need-slice-write-area Inv-loop μ-loop
 slice-write-area c = search needs
 
--- src/lib.rt:38:9
 add-i : tie.Need-add-i Inv-loop μ-loop
 add-i c = search needs
 
--- src/lib.rt:36:5
 loop-less : tie.Need-loop-less Inv-loop μ-loop
 loop-less c = search needs
 
--- src/lib.rt:36:5
 loop-again : tie.Need-loop-again Inv-loop μ-loop
 loop-again c = (search needs, erase-turn _ _ _ (c .loop-test .taken) (search needs) ∙ c .before .loop .inv .1)
 
--- src/lib.rt:31:1
 same-length : tie.Need-same-length Inv-loop μ-loop
 same-length c = search needs
 
--- src/lib.rt:31:1
 returns : tie.Need-returns Inv-loop μ-loop
 returns c = sym (sym (c .before .loop .inv .1) ∙ erase-end _ _ _ (c .loop-test .left))
 

@@ -14,43 +14,33 @@ Inv-loop area₀ at value len i₀ area i = (i ≤ len) × (length area ≡ leng
 abbrev μ-loop : tie.MeasureT-loop
 μ-loop area₀ at value len i₀ area i = len - i
 
--- src/lib.rt:58:5
 loop-holds : tie.Need-loop-holds Inv-loop μ-loop
 loop-holds c = (search needs, refl, simp (add-zero, sub-zero))
 
--- src/lib.rt:59:29
 add-area : tie.Need-add-area Inv-loop μ-loop
 add-area c = search needs
 
--- src/lib.rt:59:24
 slice-read-area : tie.Need-slice-read-area Inv-loop μ-loop
 slice-read-area c = search needs
 
--- src/lib.rt:59:14
 add-area-2 : tie.Need-add-area-2 Inv-loop μ-loop
 add-area-2 c = search needs
 
--- src/lib.rt:59:9
 slice-write-area : tie.Need-slice-write-area Inv-loop μ-loop
 slice-write-area c = search needs
 
--- src/lib.rt:60:9
 add-i : tie.Need-add-i Inv-loop μ-loop
 add-i c = search needs
 
--- src/lib.rt:58:5
 loop-less : tie.Need-loop-less Inv-loop μ-loop
 loop-less c = search needs
 
--- src/lib.rt:58:5
 loop-again : tie.Need-loop-again Inv-loop μ-loop
 loop-again c = (search needs, search needs, word-turn _ _ _ _ _ (c .before .loop-test .taken) (search needs) ∙ c .before .before .loop .inv .2)
 
--- src/lib.rt:53:1
 same-length : tie.Need-same-length Inv-loop μ-loop
 same-length c = search needs
 
--- src/lib.rt:53:1
 returns : tie.Need-returns Inv-loop μ-loop
 returns c = sym (sym (c .before .loop .inv .2) ∙ word-end _ _ _ _ _ (c .loop-test .left))
 

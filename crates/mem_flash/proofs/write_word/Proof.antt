@@ -5,35 +5,27 @@ use borrow.Author.Needs.{needs}
 use Rattle.mem_flash.proofs.write_word.Statement.{statement}
 use Rattle.mem_flash.proofs.write_word.Tie as tie
 
--- src/lib.rt:97:9
 returns : tie.Need-returns
 returns c = cut-write _ _ _ _ (c .if1 .taken)
 
--- src/lib.rt:99:9
 least-requires : tie.Need-least-requires
 least-requires c κs = search needs
 
--- src/lib.rt:100:27
 sub-least : tie.Need-sub-least
 sub-least c = search needs
 
--- src/lib.rt:100:9
 least-requires-2 : tie.Need-least-requires-2
 least-requires-2 c κs = search needs
 
--- src/lib.rt:101:5
 program-word-requires : tie.Need-program-word-requires
 program-word-requires c κs = search needs
 
--- src/lib.rt:102:21
 sub-t15 : tie.Need-sub-t15
 sub-t15 c = search needs
 
--- src/lib.rt:92:1
 same-length : tie.Need-same-length
 same-length c = search needs
 
--- src/lib.rt:92:1
 returns-2 : tie.Need-returns-2
 returns-2 c = on-write _ _ _ (search needs) _ _ (c .before .before .program-word .ensures ∙ word-clip _ _ _ _ _ _ (c .before .before .before .before .before .least .ensures) (c .before .before .before .before .least2 .ensures))
 

@@ -5,58 +5,45 @@ use borrow.Author.Needs.{needs}
 use Rattle.state_area.proofs.first_open.Statement.{statement}
 use Rattle.state_area.proofs.first_open.Tie as tie
 
--- src/lib.rt:63:14
 cast-ws : tie.Need-cast-ws
 cast-ws c = search needs
 
--- src/lib.rt:64:17
 mul-start : tie.Need-mul-start
 mul-start c = search needs
 
--- src/lib.rt:66:8
 shared-slice-read-if1 : tie.Need-shared-slice-read-if1
 shared-slice-read-if1 c = search needs
 
--- src/lib.rt:67:9
 returns : tie.Need-returns
 unfolding erased
 returns c =
     let s = c .before .before .before .before in
     found-first (s .args .z) _ (s .args .state .now) refl (marks-fit _ _ _ refl (s .pre) .0) (c .if1 .taken)
 
--- src/lib.rt:69:23
 most-marks-requires : tie.Need-most-marks-requires
 most-marks-requires c κs = search needs
 
--- src/lib.rt:69:23
 mul-end : tie.Need-mul-end
 mul-end c = let n = marks-fit _ _ _ (c .most-marks .ensures) (c .before .before .before .before .before .pre) in search needs
 
--- src/lib.rt:69:15
 add-end : tie.Need-add-end
 add-end c = let n = marks-fit _ _ _ (c .most-marks .ensures) (c .before .before .before .before .before .pre) in search needs
 
--- src/lib.rt:70:19
 sub-first : tie.Need-sub-first
 sub-first c = search needs
 
--- src/lib.rt:70:19
 part-first-start : tie.Need-part-first-start
 part-first-start c = search needs
 
--- src/lib.rt:70:19
 part-first-end : tie.Need-part-first-end
 part-first-end c = let n = marks-fit _ _ _ (c .most-marks .ensures) (c .before .before .before .before .before .pre) in search needs
 
--- src/lib.rt:70:5
 first-requires : tie.Need-first-requires
 first-requires c κs = search needs
 
--- src/lib.rt:70:5
 div-result : tie.Need-div-result
 div-result c = c .before .before .before .before .before .before .before .pre .0
 
--- src/lib.rt:59:1
 returns-2 : tie.Need-returns-2
 unfolding erased
 returns-2 c =

@@ -3,19 +3,15 @@ use borrow.Author.Needs.{needs}
 use Rattle.state_area.proofs.invalidate.Statement.{statement}
 use Rattle.state_area.proofs.invalidate.Tie as tie
 
--- src/lib.rt:102:14
 cast-ws : tie.Need-cast-ws
 cast-ws c = search needs
 
--- src/lib.rt:103:5
 write-word-requires : tie.Need-write-word-requires
 write-word-requires c κs = search needs
 
--- src/lib.rt:99:1
 same-length : tie.Need-same-length
 same-length c = search needs
 
--- src/lib.rt:99:1
 returns : tie.Need-returns
 returns c = invalidated _ (c .before .before .before .before .before .before .args .z) _ _ _ (c .before .before .write-word .ensures)
 

@@ -6,25 +6,20 @@ use borrow.Author.Needs.{needs}
 use Rattle.state_area.proofs.progress.Statement.{statement}
 use Rattle.state_area.proofs.progress.Tie as tie
 
--- src/lib.rt:92:9
 is-valid-requires : tie.Need-is-valid-requires
 is-valid-requires c κs = search needs
 
--- src/lib.rt:93:9
 most-marks-requires : tie.Need-most-marks-requires
 most-marks-requires c κs = search needs
 
--- src/lib.rt:93:9
 returns : tie.Need-returns
 returns c =
     let a = c .before .before .before .before .args in
     not-counting (a .z) _ (a .state .now) (c .most-marks .ensures) (sym (c .before .before .is-valid .ensures) ∙ not-true _ (c .before .if1 .taken))
 
--- src/lib.rt:95:5
 marks-done-requires : tie.Need-marks-done-requires
 marks-done-requires c κs = search needs
 
--- src/lib.rt:89:1
 returns-2 : tie.Need-returns-2
 returns-2 c =
     let a = c .before .before .before .before .args in

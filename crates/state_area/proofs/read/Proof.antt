@@ -6,23 +6,18 @@ use borrow.Author.Needs.{needs}
 use Rattle.state_area.proofs.read.Statement.{statement}
 use Rattle.state_area.proofs.read.Tie as tie
 
--- src/lib.rt:31:31
 cast-ws : tie.Need-cast-ws
 cast-ws c = search needs
 
--- src/lib.rt:31:9
 least-requires : tie.Need-least-requires
 least-requires c κs = search needs
 
--- src/lib.rt:32:17
 slice-aggregate-from : tie.Need-slice-aggregate-from
 slice-aggregate-from c = least-length _ _ (c .before .least .ensures)
 
--- src/lib.rt:32:5
 from-requires : tie.Need-from-requires
 from-requires c κs = search needs
 
--- src/lib.rt:28:1
 returns : tie.Need-returns
 unfolding readState
 returns c = c .from .ensures ∙ ap stateOf (first-word (c .before .before .before .before .before .args .z) _ (c .before .before .least .ensures))

@@ -4,27 +4,21 @@ use borrow.Author.Needs.{needs}
 use Rattle.verdicts.proofs.boot_verdict.Statement.{statement}
 use Rattle.verdicts.proofs.boot_verdict.Tie as tie
 
--- src/lib.rt:83:8
 boot-limits-requires : tie.Need-boot-limits-requires
 boot-limits-requires c κs = search needs
 
--- src/lib.rt:84:9
 returns : tie.Need-returns
 returns c = boot-limit _ _ _ _ (sym (c .before .boot-limits .ensures) ∙ c .if1 .taken)
 
--- src/lib.rt:86:8
 uneven-page-requires : tie.Need-uneven-page-requires
 uneven-page-requires c κs = limits-in _ _ _ _ (sym (c .before .boot-limits .ensures) ∙ c .if1 .left) .numbers
 
--- src/lib.rt:87:9
 returns-2 : tie.Need-returns-2
 returns-2 c = boot-page _ _ _ _ (sym (c .before .before .before .boot-limits .ensures) ∙ c .before .before .if1 .left) (sym (c .before .uneven-page .ensures) ∙ c .if2 .taken)
 
--- src/lib.rt:89:8
 uneven-areas-requires : tie.Need-uneven-areas-requires
 uneven-areas-requires c κs = let l = limits-in _ _ _ _ (sym (c .before .before .before .boot-limits .ensures) ∙ c .before .before .if1 .left) in (l .numbers, l .active)
 
--- src/lib.rt:90:9
 returns-3 : tie.Need-returns-3
 returns-3 c =
     let p = c .before .before in
@@ -32,11 +26,9 @@ returns-3 c =
     boot-area _ _ _ _ (sym (l .before .boot-limits .ensures) ∙ l .if1 .left) (sym (p .before .uneven-page .ensures) ∙ p .if2 .left)
     (sym (c .before .uneven-areas .ensures) ∙ c .if3 .taken)
 
--- src/lib.rt:92:8
 bad-boot-state-requires : tie.Need-bad-boot-state-requires
 bad-boot-state-requires c κs = let l = limits-in _ _ _ _ (sym (c .before .before .before .before .before .boot-limits .ensures) ∙ c .before .before .before .before .if1 .left) in (l .numbers, l .active)
 
--- src/lib.rt:93:9
 returns-4 : tie.Need-returns-4
 returns-4 c =
     let a = c .before .before in
@@ -45,7 +37,6 @@ returns-4 c =
     boot-state _ _ _ _ (sym (l .before .boot-limits .ensures) ∙ l .if1 .left) (sym (p .before .uneven-page .ensures) ∙ p .if2 .left)
     (sym (a .before .uneven-areas .ensures) ∙ a .if3 .left) (sym (c .before .bad-boot-state .ensures) ∙ c .if4 .taken)
 
--- src/lib.rt:80:1
 returns-5 : tie.Need-returns-5
 returns-5 c =
     let a = c .before .before in

@@ -4,23 +4,18 @@ use borrow.Author.Needs.{needs}
 use Rattle.verdicts.proofs.state_verdict.Statement.{statement}
 use Rattle.verdicts.proofs.state_verdict.Tie as tie
 
--- src/lib.rt:124:8
 state-limits-requires : tie.Need-state-limits-requires
 state-limits-requires c κs = search needs
 
--- src/lib.rt:125:9
 returns : tie.Need-returns
 returns c = state-limit _ _ (sym (c .before .state-limits .ensures) ∙ c .if1 .taken)
 
--- src/lib.rt:127:8
 bad-state-requires : tie.Need-bad-state-requires
 bad-state-requires c κs = state-numbers _ _ (sym (c .before .state-limits .ensures) ∙ c .if1 .left)
 
--- src/lib.rt:128:9
 returns-2 : tie.Need-returns-2
 returns-2 c = state-short _ _ (sym (c .before .before .before .state-limits .ensures) ∙ c .before .before .if1 .left) (sym (c .before .bad-state .ensures) ∙ c .if2 .taken)
 
--- src/lib.rt:121:1
 returns-3 : tie.Need-returns-3
 returns-3 c = state-admitted _ _ (sym (c .before .before .before .state-limits .ensures) ∙ c .before .before .if1 .left) (sym (c .before .bad-state .ensures) ∙ c .if2 .left)
 

@@ -4,41 +4,32 @@ use borrow.Author.Needs.{needs}
 use Rattle.verdicts.proofs.updater_verdict.Statement.{statement}
 use Rattle.verdicts.proofs.updater_verdict.Tie as tie
 
--- src/lib.rt:137:8
 updater-limits-requires : tie.Need-updater-limits-requires
 updater-limits-requires c κs = search needs
 
--- src/lib.rt:138:9
 returns : tie.Need-returns
 returns c = updater-limit _ _ _ (sym (c .before .updater-limits .ensures) ∙ c .if1 .taken)
 
--- src/lib.rt:140:22
 cast-uneven : tie.Need-cast-uneven
 cast-uneven c = search needs
 
--- src/lib.rt:140:37
 cast-uneven-2 : tie.Need-cast-uneven-2
 cast-uneven-2 c = search needs
 
--- src/lib.rt:140:8
 uneven-requires : tie.Need-uneven-requires
 uneven-requires c κs = updater-numbers _ _ _ (sym (c .before .before .before .updater-limits .ensures) ∙ c .before .before .if1 .left) .1
 
--- src/lib.rt:141:9
 returns-2 : tie.Need-returns-2
 returns-2 c =
     let l = c .before .before .before .before in
     updater-page _ _ _ (sym (l .before .updater-limits .ensures) ∙ l .if1 .left) (sym (c .before .uneven .ensures) ∙ c .if2 .taken)
 
--- src/lib.rt:143:26
 cast-uneven-3 : tie.Need-cast-uneven-3
 cast-uneven-3 c = search needs
 
--- src/lib.rt:143:8
 uneven-requires-2 : tie.Need-uneven-requires-2
 uneven-requires-2 c κs = updater-numbers _ _ _ (sym (c .before .before .before .before .before .before .updater-limits .ensures) ∙ c .before .before .before .before .before .if1 .left) .0
 
--- src/lib.rt:144:9
 returns-3 : tie.Need-returns-3
 returns-3 c =
     let p = c .before .before .before in
@@ -46,14 +37,12 @@ returns-3 c =
     updater-area _ _ _ (sym (l .before .updater-limits .ensures) ∙ l .if1 .left) (sym (p .before .uneven .ensures) ∙ p .if2 .left)
     (sym (c .before .uneven2 .ensures) ∙ c .if3 .taken)
 
--- src/lib.rt:146:8
 bad-state-requires : tie.Need-bad-state-requires
 bad-state-requires c κs =
     let l = c .before .before .before .before .before .before .before in
     let n = updater-numbers _ _ _ (sym (l .before .updater-limits .ensures) ∙ l .if1 .left) in
     (n .2, n .3)
 
--- src/lib.rt:147:9
 returns-4 : tie.Need-returns-4
 returns-4 c =
     let a = c .before .before in
@@ -62,7 +51,6 @@ returns-4 c =
     updater-state _ _ _ (sym (l .before .updater-limits .ensures) ∙ l .if1 .left) (sym (p .before .uneven .ensures) ∙ p .if2 .left)
     (sym (a .before .uneven2 .ensures) ∙ a .if3 .left) (sym (c .before .bad-state .ensures) ∙ c .if4 .taken)
 
--- src/lib.rt:134:1
 returns-5 : tie.Need-returns-5
 returns-5 c =
     let a = c .before .before in

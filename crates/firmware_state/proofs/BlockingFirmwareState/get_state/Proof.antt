@@ -9,15 +9,12 @@ use borrow.Author.Needs.{needs}
 use Rattle.firmware_state.proofs.BlockingFirmwareState.get_state.Statement.{statement}
 use Rattle.firmware_state.proofs.BlockingFirmwareState.get_state.Tie as tie
 
--- src/lib.rt:243:13
 state-verdict-requires : tie.Need-state-verdict-requires
 state-verdict-requires c κs = search needs
 
--- src/lib.rt:244:33
 enum-known-judged : tie.Need-enum-known-judged
 enum-known-judged c = search needs
 
--- src/lib.rt:245:13
 returns : tie.Need-returns
 unfolding getState
 returns c =
@@ -29,11 +26,9 @@ returns c =
 enum-told : tie.Need-enum-told
 enum-told c = search needs
 
--- src/lib.rt:247:23
 read-requires : tie.Need-read-requires
 read-requires c κs = search needs
 
--- src/lib.rt:240:5
 returns-2 : tie.Need-returns-2
 unfolding getState
 returns-2 c =

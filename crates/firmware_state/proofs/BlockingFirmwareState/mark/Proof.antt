@@ -8,38 +8,30 @@ use borrow.Author.Needs.{needs}
 use Rattle.firmware_state.proofs.BlockingFirmwareState.mark.Statement.{statement}
 use Rattle.firmware_state.proofs.BlockingFirmwareState.mark.Tie as tie
 
--- src/lib.rt:279:33
 enum-known-judged : tie.Need-enum-known-judged
 enum-known-judged c = search needs
 
--- src/lib.rt:280:13
 returns : tie.Need-returns
 returns c = λ k a d e s x. did-refused k _ _ _ _ e (c .before .judged .given .1)
 
 enum-told : tie.Need-enum-told
 enum-told c = search needs
 
--- src/lib.rt:282:52
 magic-requires : tie.Need-magic-requires
 magic-requires c κs = search needs
 
--- src/lib.rt:282:30
 set-magic-requires : tie.Need-set-magic-requires
 set-magic-requires c κs = search needs
 
--- src/lib.rt:282:22
 enum-known-rest : tie.Need-enum-known-rest
 enum-known-rest c = search needs
 
--- src/lib.rt:283:13
 enum-told-2 : tie.Need-enum-told-2
 enum-told-2 c = search needs
 
--- src/lib.rt:283:13
 same-length : tie.Need-same-length
 same-length c = search needs
 
--- src/lib.rt:283:13
 returns-2 : tie.Need-returns-2
 returns-2 c =
     λ k a d e s x.
@@ -48,15 +40,12 @@ returns-2 c =
     let m = ap (λ m. setMagicOps (g .self .sizes) m (g .state .now)) (sym (w .before .magic .ensures)) in
     mark-cut k _ _ _ a d _ _ _ e (w .before .before .before .enum-told .given .1) s (x ∙ m) (w .set-magic .ensures) (c .enum-told2 .given .1)
 
--- src/lib.rt:285:22
 sub-t13 : tie.Need-sub-t13
 sub-t13 c = on-low _ _ _ _ _ (ran _ _ _ _ _ (c .before .before .before .before .before .before .set-magic .ensures [] [])) _ (c .before .before .rest .given .1)
 
--- src/lib.rt:275:5
 same-length-2 : tie.Need-same-length-2
 same-length-2 c = search needs
 
--- src/lib.rt:275:5
 returns-3 : tie.Need-returns-3
 returns-3 c =
     λ k a d e s x.

@@ -6,19 +6,15 @@ use borrow.Author.Needs.{needs}
 use Rattle.firmware_state.proofs.BlockingFirmwareState.mark_updated.Statement.{statement}
 use Rattle.firmware_state.proofs.BlockingFirmwareState.mark_updated.Tie as tie
 
--- src/lib.rt:254:13
 state-verdict-requires : tie.Need-state-verdict-requires
 state-verdict-requires c κs = search needs
 
--- src/lib.rt:255:9
 mark-requires : tie.Need-mark-requires
 mark-requires c κs = search needs
 
--- src/lib.rt:251:5
 same-length : tie.Need-same-length
 same-length c = search needs
 
--- src/lib.rt:251:5
 returns : tie.Need-returns
 unfolding mark
 returns c =

@@ -4,39 +4,30 @@ use borrow.Author.Needs.{needs}
 use Rattle.firmware_state.proofs.BlockingFirmwareState.set_magic.Statement.{statement}
 use Rattle.firmware_state.proofs.BlockingFirmwareState.set_magic.Tie as tie
 
--- src/lib.rt:293:12
 magic-is-requires : tie.Need-magic-is-requires
 magic-is-requires c κs = search needs
 
--- src/lib.rt:294:13
 same-length : tie.Need-same-length
 same-length c = search needs
 
--- src/lib.rt:294:13
 returns : tie.Need-returns
 returns c = magic-there _ _ _ _ (sym (c .before .magic-is .ensures) ∙ c .if1 .taken)
 
--- src/lib.rt:296:12
 is-valid-requires : tie.Need-is-valid-requires
 is-valid-requires c κs = search needs
 
--- src/lib.rt:297:34
 invalidate-requires : tie.Need-invalidate-requires
 invalidate-requires c κs = search needs
 
--- src/lib.rt:297:26
 enum-known-rest : tie.Need-enum-known-rest
 enum-known-rest c = search needs
 
--- src/lib.rt:298:17
 enum-told : tie.Need-enum-told
 enum-told c = search needs
 
--- src/lib.rt:298:17
 same-length-2 : tie.Need-same-length-2
 same-length-2 c = search needs
 
--- src/lib.rt:298:17
 returns-2 : tie.Need-returns-2
 returns-2 c =
     let v = c .before .before .before .before .before .before in
@@ -44,15 +35,12 @@ returns-2 c =
     magic-cut _ _ _ (sym (m .before .magic-is .ensures) ∙ m .if1 .left) _ (sym (v .before .is-valid .ensures) ∙ v .if2 .taken)
     _ _ (c .before .before .before .before .invalidate .ensures) (c .enum-told .given .1)
 
--- src/lib.rt:300:13
 renew-requires : tie.Need-renew-requires
 renew-requires c κs = search needs
 
--- src/lib.rt:300:13
 same-length-3 : tie.Need-same-length-3
 same-length-3 c = search needs
 
--- src/lib.rt:300:13
 returns-3 : tie.Need-returns-3
 returns-3 c =
     let i = c .before .before .before .before .before .before .before .before .before in
@@ -61,15 +49,12 @@ returns-3 c =
     magic-on _ _ _ (sym (m .before .magic-is .ensures) ∙ m .if1 .left) _ (sym (v .before .is-valid .ensures) ∙ v .if2 .taken)
     _ _ (i .invalidate .ensures) _ _ _ (c .before .before .before .before .before .rest .given .1) (i .invalidate .kept .0) (c .before .before .renew .ensures)
 
--- src/lib.rt:302:9
 renew-requires-2 : tie.Need-renew-requires-2
 renew-requires-2 c κs = search needs
 
--- src/lib.rt:289:5
 same-length-4 : tie.Need-same-length-4
 same-length-4 c = search needs
 
--- src/lib.rt:289:5
 returns-4 : tie.Need-returns-4
 returns-4 c =
     let v = c .before .before .before .before in

@@ -6,42 +6,33 @@ use Rattle.firmware_state.proofs.BlockingFirmwareState.verify_booted.St
 }
 use Rattle.firmware_state.proofs.BlockingFirmwareState.verify_booted.Tie as tie
 
--- src/lib.rt:231:13
 read-requires : tie.Need-read-requires
 read-requires c κs = search needs
 
--- src/lib.rt:233:28
 enum-told : tie.Need-enum-told
 enum-told c = search needs
 
--- src/lib.rt:234:28
 enum-told-2 : tie.Need-enum-told-2
 enum-told-2 c = search needs
 
--- src/lib.rt:235:30
 enum-told-3 : tie.Need-enum-told-3
 enum-told-3 c = search needs
 
--- src/lib.rt:236:33
 enum-told-4 : tie.Need-enum-told-4
 enum-told-4 c = search needs
 
--- src/lib.rt:228:5
 returns : tie.Need-returns
 unfolding isSwap
 returns c = booted-is _ _ (c .before .before .read .ensures) (c .enum-told .given .1)
 
--- src/lib.rt:228:5
 returns-2 : tie.Need-returns-2
 unfolding isSwap
 returns-2 c = booted-is _ _ (c .before .before .read .ensures) (c .enum-told2 .given .1)
 
--- src/lib.rt:228:5
 returns-3 : tie.Need-returns-3
 unfolding isSwap
 returns-3 c = booted-is _ _ (c .before .before .read .ensures) (c .enum-told3 .given .1)
 
--- src/lib.rt:228:5
 returns-4 : tie.Need-returns-4
 unfolding isSwap
 returns-4 c = booted-is _ _ (c .before .before .read .ensures) (c .enum-told4 .given .1)

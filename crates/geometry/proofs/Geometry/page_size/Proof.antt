@@ -4,20 +4,16 @@ use borrow.Author.Needs.{needs}
 use Rattle.geometry.proofs.Geometry.page_size.Statement.{statement}
 use Rattle.geometry.proofs.Geometry.page_size.Tie as tie
 
--- src/lib.rt:72:13
 cast-result : tie.Need-cast-result
 cast-result c = search needs
 
--- src/lib.rt:74:13
 cast-result-2 : tie.Need-cast-result-2
 cast-result-2 c = search needs
 
--- src/lib.rt:68:5
 returns : tie.Need-returns
 unfolding page
 returns c = omega arith
 
--- src/lib.rt:68:5
 returns-2 : tie.Need-returns-2
 unfolding page
 returns-2 c = omega arith

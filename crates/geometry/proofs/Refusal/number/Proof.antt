@@ -3,56 +3,44 @@ use borrow.Author.Needs.{needs}
 use Rattle.geometry.proofs.Refusal.number.Statement.{statement}
 use Rattle.geometry.proofs.Refusal.number.Tie as tie
 
--- src/lib.rt:56:31
 enum-told : tie.Need-enum-told
 enum-told c = search needs
 
--- src/lib.rt:57:30
 enum-told-2 : tie.Need-enum-told-2
 enum-told-2 c = search needs
 
--- src/lib.rt:58:30
 enum-told-3 : tie.Need-enum-told-3
 enum-told-3 c = search needs
 
--- src/lib.rt:59:35
 enum-told-4 : tie.Need-enum-told-4
 enum-told-4 c = search needs
 
--- src/lib.rt:60:34
 enum-told-5 : tie.Need-enum-told-5
 enum-told-5 c = search needs
 
--- src/lib.rt:61:31
 enum-told-6 : tie.Need-enum-told-6
 enum-told-6 c = search needs
 
--- src/lib.rt:52:5
 returns : tie.Need-returns
 unfolding number
 returns c = search needs
 
--- src/lib.rt:52:5
 returns-2 : tie.Need-returns-2
 unfolding number
 returns-2 c = search needs
 
--- src/lib.rt:52:5
 returns-3 : tie.Need-returns-3
 unfolding number
 returns-3 c = search needs
 
--- src/lib.rt:52:5
 returns-4 : tie.Need-returns-4
 unfolding number
 returns-4 c = search needs
 
--- src/lib.rt:52:5
 returns-5 : tie.Need-returns-5
 unfolding number
 returns-5 c = search needs
 
--- src/lib.rt:52:5
 returns-6 : tie.Need-returns-6
 unfolding number
 returns-6 c = search needs

@@ -4,27 +4,21 @@ use borrow.Author.Needs.{needs}
 use Rattle.state.proofs.State.from.Statement.{statement}
 use Rattle.state.proofs.State.from.Tie as tie
 
--- src/lib.rt:63:12
 all-are-requires : tie.Need-all-are-requires
 all-are-requires c κs = search needs
 
--- src/lib.rt:64:13
 returns : tie.Need-returns
 returns c = is-swap _ (sym (c .before .all-are .ensures) ∙ c .if1 .taken)
 
--- src/lib.rt:66:12
 all-are-requires-2 : tie.Need-all-are-requires-2
 all-are-requires-2 c κs = search needs
 
--- src/lib.rt:67:13
 returns-2 : tie.Need-returns-2
 returns-2 c = is-revert _ (sym (c .before .before .before .all-are .ensures) ∙ c .before .before .if1 .left) (sym (c .before .all-are2 .ensures) ∙ c .if2 .taken)
 
--- src/lib.rt:69:12
 all-are-requires-3 : tie.Need-all-are-requires-3
 all-are-requires-3 c κs = search needs
 
--- src/lib.rt:70:13
 returns-3 : tie.Need-returns-3
 returns-3 c =
     let second = c .before .before in
@@ -32,7 +26,6 @@ returns-3 c =
     is-detach _ (sym (first .before .all-are .ensures) ∙ first .if1 .left) (sym (second .before .all-are2 .ensures) ∙ second .if2 .left)
     (sym (c .before .all-are3 .ensures) ∙ c .if3 .taken)
 
--- src/lib.rt:60:5
 returns-4 : tie.Need-returns-4
 returns-4 c =
     let second = c .before .before in

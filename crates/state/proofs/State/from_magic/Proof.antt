@@ -3,19 +3,15 @@ use mathlib.Core.Path.{refl}
 use Rattle.state.proofs.State.from_magic.Statement.{statement}
 use Rattle.state.proofs.State.from_magic.Tie as tie
 
--- src/lib.rt:48:5
 returns : tie.Need-returns
 returns c = is-swap _ (one-is _ _ (c .match .keys1))
 
--- src/lib.rt:48:5
 returns-2 : tie.Need-returns-2
 returns-2 c = is-revert _ (one-other _ _ _ (c .match .keys2) refl) (one-is _ _ (c .match .keys2))
 
--- src/lib.rt:48:5
 returns-3 : tie.Need-returns-3
 returns-3 c = is-detach _ (one-other _ _ _ (c .match .keys3) refl) (one-other _ _ _ (c .match .keys3) refl) (one-is _ _ (c .match .keys3))
 
--- src/lib.rt:48:5
 returns-4 : tie.Need-returns-4
 returns-4 c = is-boot _ (one-not _ _ (c .match .rest .0 .0 .1)) (one-not _ _ (c .match .rest .0 .1)) (one-not _ _ (c .match .rest .1))
 

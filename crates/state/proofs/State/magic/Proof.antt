@@ -3,38 +3,30 @@ use borrow.Author.Needs.{needs}
 use Rattle.state.proofs.State.magic.Statement.{statement}
 use Rattle.state.proofs.State.magic.Tie as tie
 
--- src/lib.rt:40:28
 enum-told : tie.Need-enum-told
 enum-told c = search needs
 
--- src/lib.rt:41:28
 enum-told-2 : tie.Need-enum-told-2
 enum-told-2 c = search needs
 
--- src/lib.rt:42:30
 enum-told-3 : tie.Need-enum-told-3
 enum-told-3 c = search needs
 
--- src/lib.rt:43:33
 enum-told-4 : tie.Need-enum-told-4
 enum-told-4 c = search needs
 
--- src/lib.rt:36:5
 returns : tie.Need-returns
 unfolding magic
 returns c = search needs
 
--- src/lib.rt:36:5
 returns-2 : tie.Need-returns-2
 unfolding magic
 returns-2 c = search needs
 
--- src/lib.rt:36:5
 returns-3 : tie.Need-returns-3
 unfolding magic
 returns-3 c = search needs
 
--- src/lib.rt:36:5
 returns-4 : tie.Need-returns-4
 unfolding magic
 returns-4 c = search needs

@@ -6,23 +6,18 @@ use borrow.Author.Needs.{needs}
 use Rattle.verdicts.proofs.check.bad_boot_state.Statement.{statement}
 use Rattle.verdicts.proofs.check.bad_boot_state.Tie as tie
 
--- src/check.rt:133:18
 page-size-requires : tie.Need-page-size-requires
 page-size-requires c κs = search needs
 
--- src/check.rt:133:13
 div-n : tie.Need-div-n
 div-n c = omega (arith, page-some (c .before .pre .0))
 
--- src/check.rt:134:15
 boot-words-requires : tie.Need-boot-words-requires
 boot-words-requires c κs = omega (arith, div-le-self (c .before .args .la) (c .page-size .result), c .before .pre .1)
 
--- src/check.rt:134:5
 bad-state-requires : tie.Need-bad-state-requires
 bad-state-requires c κs = search needs
 
--- src/check.rt:129:1
 returns : tie.Need-returns
 unfolding pages
 returns c = rw (← c .before .before .page-size .ensures, ← c .before .boot-words .ensures) (c .bad-state .ensures)

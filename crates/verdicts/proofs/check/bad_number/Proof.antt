@@ -4,15 +4,12 @@ use borrow.Author.Needs.{needs}
 use Rattle.verdicts.proofs.check.bad_number.Statement.{statement}
 use Rattle.verdicts.proofs.check.bad_number.Tie as tie
 
--- src/check.rt:34:16
 last-requires : tie.Need-last-requires
 last-requires c κs = search needs
 
--- src/check.rt:34:5
 or-requires : tie.Need-or-requires
 or-requires c κs = search needs
 
--- src/check.rt:31:1
 returns : tie.Need-returns
 unfolding badNumber mostNumber
 returns c = c .or .ensures _ _ refl (c .before .last .ensures _ refl)

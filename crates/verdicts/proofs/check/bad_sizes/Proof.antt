@@ -3,23 +3,18 @@ use borrow.Author.Needs.{needs}
 use Rattle.verdicts.proofs.check.bad_sizes.Statement.{statement}
 use Rattle.verdicts.proofs.check.bad_sizes.Tie as tie
 
--- src/check.rt:52:8
 bad-number-requires : tie.Need-bad-number-requires
 bad-number-requires c κs = search needs
 
--- src/check.rt:52:29
 bad-number-requires-2 : tie.Need-bad-number-requires-2
 bad-number-requires-2 c κs = search needs
 
--- src/check.rt:52:26
 or-requires : tie.Need-or-requires
 or-requires c κs = search needs
 
--- src/check.rt:52:5
 or-requires-2 : tie.Need-or-requires-2
 or-requires-2 c κs = search needs
 
--- src/check.rt:49:1
 returns : tie.Need-returns
 unfolding stateNumbers
 returns c =

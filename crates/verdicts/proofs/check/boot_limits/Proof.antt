@@ -3,75 +3,57 @@ use borrow.Author.Needs.{needs}
 use Rattle.verdicts.proofs.check.boot_limits.Statement.{statement}
 use Rattle.verdicts.proofs.check.boot_limits.Tie as tie
 
--- src/check.rt:59:22
 too-long-requires : tie.Need-too-long-requires
 too-long-requires c κs = search needs
 
--- src/check.rt:59:39
 too-long-requires-2 : tie.Need-too-long-requires-2
 too-long-requires-2 c κs = search needs
 
--- src/check.rt:59:58
 too-long-requires-3 : tie.Need-too-long-requires-3
 too-long-requires-3 c κs = search needs
 
--- src/check.rt:59:53
 last-requires : tie.Need-last-requires
 last-requires c κs = search needs
 
--- src/check.rt:59:36
 or-requires : tie.Need-or-requires
 or-requires c κs = search needs
 
--- src/check.rt:59:9
 or-requires-2 : tie.Need-or-requires-2
 or-requires-2 c κs = search needs
 
--- src/check.rt:60:20
 bad-number-requires : tie.Need-bad-number-requires
 bad-number-requires c κs = search needs
 
--- src/check.rt:60:37
 bad-sizes-requires : tie.Need-bad-sizes-requires
 bad-sizes-requires c κs = search needs
 
--- src/check.rt:60:9
 or-requires-3 : tie.Need-or-requires-3
 or-requires-3 c κs = search needs
 
--- src/check.rt:61:18
 bad-number-requires-2 : tie.Need-bad-number-requires-2
 bad-number-requires-2 c κs = search needs
 
--- src/check.rt:61:39
 bad-number-requires-3 : tie.Need-bad-number-requires-3
 bad-number-requires-3 c κs = search needs
 
--- src/check.rt:61:36
 or-requires-4 : tie.Need-or-requires-4
 or-requires-4 c κs = search needs
 
--- src/check.rt:61:9
 or-requires-5 : tie.Need-or-requires-5
 or-requires-5 c κs = search needs
 
--- src/check.rt:62:8
 bad-number-requires-4 : tie.Need-bad-number-requires-4
 bad-number-requires-4 c κs = search needs
 
--- src/check.rt:62:29
 bad-number-requires-5 : tie.Need-bad-number-requires-5
 bad-number-requires-5 c κs = search needs
 
--- src/check.rt:62:26
 or-requires-6 : tie.Need-or-requires-6
 or-requires-6 c κs = search needs
 
--- src/check.rt:62:5
 or-requires-7 : tie.Need-or-requires-7
 or-requires-7 c κs = search needs
 
--- src/check.rt:56:1
 returns : tie.Need-returns
 unfolding outside bootNumbers
 returns c =

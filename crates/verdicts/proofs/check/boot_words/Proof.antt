@@ -4,17 +4,14 @@ use borrow.Author.Needs.{needs}
 use Rattle.verdicts.proofs.check.boot_words.Statement.{statement}
 use Rattle.verdicts.proofs.check.boot_words.Tie as tie
 
--- src/check.rt:115:5
 mul-result : tie.Need-mul-result
 unfolding mostLength
 mul-result c = record { fits = omega arith }
 
--- src/check.rt:115:5
 add-result : tie.Need-add-result
 unfolding mostLength
 add-result c = record { fits = omega arith }
 
--- src/check.rt:111:1
 returns : tie.Need-returns
 unfolding bootWords
 returns c = search needs

@@ -3,7 +3,6 @@ use Rattle.geometry.proofs.Tests.{any-one}
 use Rattle.verdicts.proofs.check.last.Statement.{statement}
 use Rattle.verdicts.proofs.check.last.Tie as tie
 
--- src/check.rt:25:1
 returns : tie.Need-returns
 returns c = λ x e. e ∙ sym (any-one x)
 

@@ -3,11 +3,9 @@ use Rattle.geometry.proofs.Tests.{any-first, any-later}
 use Rattle.verdicts.proofs.check.or.Statement.{statement}
 use Rattle.verdicts.proofs.check.or.Tie as tie
 
--- src/check.rt:14:1
 returns : tie.Need-returns
 returns c = λ x bs e d. sym (any-first x bs (sym e ∙ c .if1 .taken))
 
--- src/check.rt:14:1
 returns-2 : tie.Need-returns-2
 returns-2 c = λ x bs e d. d ∙ sym (any-later x bs (sym e ∙ c .if1 .left))
 

@@ -3,19 +3,15 @@ use borrow.Author.Needs.{needs}
 use Rattle.verdicts.proofs.check.state_limits.Statement.{statement}
 use Rattle.verdicts.proofs.check.state_limits.Tie as tie
 
--- src/check.rt:69:23
 too-long-requires : tie.Need-too-long-requires
 too-long-requires c κs = search needs
 
--- src/check.rt:69:18
 last-requires : tie.Need-last-requires
 last-requires c κs = search needs
 
--- src/check.rt:69:5
 bad-sizes-requires : tie.Need-bad-sizes-requires
 bad-sizes-requires c κs = search needs
 
--- src/check.rt:66:1
 returns : tie.Need-returns
 unfolding outside
 returns c =

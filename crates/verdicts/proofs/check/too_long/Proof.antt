@@ -3,7 +3,6 @@ use Rattle.geometry.specs.Refusals.{tooLong, mostLength}
 use Rattle.verdicts.proofs.check.too_long.Statement.{statement}
 use Rattle.verdicts.proofs.check.too_long.Tie as tie
 
--- src/check.rt:37:1
 returns : tie.Need-returns
 unfolding tooLong mostLength
 returns c = refl

@@ -4,11 +4,9 @@ use borrow.Author.Needs.{needs}
 use Rattle.verdicts.proofs.check.uneven.Statement.{statement}
 use Rattle.verdicts.proofs.check.uneven.Tie as tie
 
--- src/check.rt:48:5
 rem-result : tie.Need-rem-result
 rem-result c = search needs
 
--- src/check.rt:44:1
 returns : tie.Need-returns
 unfolding uneven
 returns c = refl

@@ -6,36 +6,28 @@ use borrow.Author.Needs.{needs}
 use Rattle.verdicts.proofs.check.uneven_areas.Statement.{statement}
 use Rattle.verdicts.proofs.check.uneven_areas.Tie as tie
 
--- src/check.rt:90:9
 page-size-requires : tie.Need-page-size-requires
 page-size-requires c κs = search needs
 
--- src/check.rt:91:8
 uneven-requires : tie.Need-uneven-requires
 uneven-requires c κs = omega (arith, page-some (c .before .pre .0))
 
--- src/check.rt:91:26
 uneven-requires-2 : tie.Need-uneven-requires-2
 uneven-requires-2 c κs = omega (arith, page-some (c .before .before .pre .0))
 
--- src/check.rt:91:51
 add-last : tie.Need-add-last
 unfolding mostNumber mostLength
 add-last c = record { fits = omega (arith, page-most (c .before .before .before .pre .0)) }
 
--- src/check.rt:91:41
 last-requires : tie.Need-last-requires
 last-requires c κs = search needs
 
--- src/check.rt:91:23
 or-requires : tie.Need-or-requires
 or-requires c κs = search needs
 
--- src/check.rt:91:5
 or-requires-2 : tie.Need-or-requires-2
 or-requires-2 c κs = search needs
 
--- src/check.rt:86:1
 returns : tie.Need-returns
 unfolding unevenAreas
 returns c =

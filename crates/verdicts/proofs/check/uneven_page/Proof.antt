@@ -4,95 +4,72 @@ use borrow.Author.Needs.{needs}
 use Rattle.verdicts.proofs.check.uneven_page.Statement.{statement}
 use Rattle.verdicts.proofs.check.uneven_page.Tie as tie
 
--- src/check.rt:88:9
 page-size-requires : tie.Need-page-size-requires
 page-size-requires c κs = search needs
 
--- src/check.rt:89:13
 cast-b : tie.Need-cast-b
 cast-b c = search needs
 
--- src/check.rt:90:14
 cast-wa : tie.Need-cast-wa
 cast-wa c = search needs
 
--- src/check.rt:91:14
 cast-wd : tie.Need-cast-wd
 cast-wd c = search needs
 
--- src/check.rt:92:14
 cast-ws : tie.Need-cast-ws
 cast-ws c = search needs
 
--- src/check.rt:93:20
 uneven-requires : tie.Need-uneven-requires
 uneven-requires c κs = search needs
 
--- src/check.rt:93:38
 uneven-requires-2 : tie.Need-uneven-requires-2
 uneven-requires-2 c κs = search needs
 
--- src/check.rt:93:53
 last-requires : tie.Need-last-requires
 last-requires c κs = search needs
 
--- src/check.rt:93:35
 or-requires : tie.Need-or-requires
 or-requires c κs = search needs
 
--- src/check.rt:93:9
 or-requires-2 : tie.Need-or-requires-2
 or-requires-2 c κs = search needs
 
--- src/check.rt:94:21
 uneven-requires-3 : tie.Need-uneven-requires-3
 uneven-requires-3 c κs = search needs
 
--- src/check.rt:94:39
 uneven-requires-4 : tie.Need-uneven-requires-4
 uneven-requires-4 c κs = search needs
 
--- src/check.rt:94:57
 uneven-requires-5 : tie.Need-uneven-requires-5
 uneven-requires-5 c κs = search needs
 
--- src/check.rt:94:54
 or-requires-3 : tie.Need-or-requires-3
 or-requires-3 c κs = search needs
 
--- src/check.rt:94:36
 or-requires-4 : tie.Need-or-requires-4
 or-requires-4 c κs = search needs
 
--- src/check.rt:94:9
 or-requires-5 : tie.Need-or-requires-5
 or-requires-5 c κs = search needs
 
--- src/check.rt:96:19
 cast-uneven : tie.Need-cast-uneven
 cast-uneven c = search needs
 
--- src/check.rt:96:9
 uneven-requires-6 : tie.Need-uneven-requires-6
 uneven-requires-6 c κs = c .before .before .before .before .before .before .before .before .before .before .before .before .before .before .before .before .before .pre .ea .some
 
--- src/check.rt:97:22
 cast-uneven-2 : tie.Need-cast-uneven-2
 cast-uneven-2 c = search needs
 
--- src/check.rt:97:12
 uneven-requires-7 : tie.Need-uneven-requires-7
 uneven-requires-7 c κs = c .before .before .before .before .before .before .before .before .before .before .before .before .before .before .before .before .before .before .before .pre .ed .some
 
--- src/check.rt:97:9
 or-requires-6 : tie.Need-or-requires-6
 or-requires-6 c κs = search needs
 
--- src/check.rt:95:5
 or-requires-7 : tie.Need-or-requires-7
 or-requires-7 c κs = search needs
 
--- src/check.rt:84:1
 returns : tie.Need-returns
 unfolding unevenPage
 returns c =

@@ -3,43 +3,33 @@ use borrow.Author.Needs.{needs}
 use Rattle.verdicts.proofs.check.updater_limits.Statement.{statement}
 use Rattle.verdicts.proofs.check.updater_limits.Tie as tie
 
--- src/check.rt:76:22
 too-long-requires : tie.Need-too-long-requires
 too-long-requires c κs = search needs
 
--- src/check.rt:76:41
 too-long-requires-2 : tie.Need-too-long-requires-2
 too-long-requires-2 c κs = search needs
 
--- src/check.rt:76:36
 last-requires : tie.Need-last-requires
 last-requires c κs = search needs
 
--- src/check.rt:76:9
 or-requires : tie.Need-or-requires
 or-requires c κs = search needs
 
--- src/check.rt:78:9
 bad-number-requires : tie.Need-bad-number-requires
 bad-number-requires c κs = search needs
 
--- src/check.rt:79:12
 bad-number-requires-2 : tie.Need-bad-number-requires-2
 bad-number-requires-2 c κs = search needs
 
--- src/check.rt:79:30
 bad-sizes-requires : tie.Need-bad-sizes-requires
 bad-sizes-requires c κs = search needs
 
--- src/check.rt:79:9
 or-requires-2 : tie.Need-or-requires-2
 or-requires-2 c κs = search needs
 
--- src/check.rt:77:5
 or-requires-3 : tie.Need-or-requires-3
 or-requires-3 c κs = search needs
 
--- src/check.rt:73:1
 returns : tie.Need-returns
 unfolding outside updaterNumbers
 returns c =
