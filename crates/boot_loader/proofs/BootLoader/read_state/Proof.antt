@@ -1,4 +1,4 @@
--- Each answer ends in `cc`, which proves a weaker clause as well: must-fail/read_state_number_only is refused by proofs/Unique.
+-- Each answer rewrites by the law, which proves a weaker clause as well: must-fail/read_state_number_only is refused by proofs/Unique.
 use mathlib.Core.Path.{refl, ap, sym}
 use mathlib.Core.Option.{some}
 use mathlib.Core.List.{[]}
@@ -21,7 +21,7 @@ returns c =
     let a = v .before .before .before .args in
     let d = did-refused (getState (a .self .geometry .state) (a .state .now)) 0 (flash [] [] []) _ _ (v .state-verdict .ensures)
     (c .before .verdict .given .1) in
-    (let e = d .answer in cc)
+    rw (← d .answer)
 
 enum-told : tie.Need-enum-told
 enum-told c = c .match .keys2
@@ -38,7 +38,7 @@ returns-2 c =
     let passed = verdict-admitted _ _ (v .state-verdict .ensures) (t .enum-told .given .1) in
     let d = did-nothing (getState (a .self .geometry .state) (a .state .now)) 0 (flash [] [] []) passed _
     (ap some (sym (c .read .ensures))) refl in
-    (let e = d .answer in cc)
+    rw (← d .answer)
 
 pub read-state-spec : {M : Type 1} → statement M
 read-state-spec =

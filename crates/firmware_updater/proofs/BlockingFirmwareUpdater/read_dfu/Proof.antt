@@ -1,4 +1,4 @@
--- `read_dfu`: the verdict's refusal, row 6, or the copy. Each answer ends in `cc`, which proves a weaker clause as well,
+-- `read_dfu`: the verdict's refusal, row 6, or the copy. Each answer rewrites by the law, which proves a weaker clause as well,
 -- so that a weakened contract is refused where its meaning is missed: in proofs/Unique (must-fail/read_length_only). Assumes nothing.
 use mathlib.Core.Path.{refl, sym, _∙_}
 use borrow.Author.Tests.{ltb-false}
@@ -23,7 +23,7 @@ returns c =
     let a = j .before .before .before .before .args in
     let d = read-refused (a .self .sizes) (a .offset) (a .buf .now) (a .dfu .now) (a .state .now)
     (early-refusal _ _ _ _ _ _ _ (j .updater-verdict .ensures) (c .before .judged .given .1)) refl in
-    (d .0, (let e = d .1 in cc))
+    (d .0, rw (← d .1))
 
 enum-told : tie.Need-enum-told
 enum-told c = search needs
@@ -39,7 +39,7 @@ returns-2 c =
     let d = read-refused (a .self .sizes) (a .offset) (a .buf .now) (a .dfu .now) (a .state .now)
     (updater-range _ _ _ _ _ (verdict-admitted _ _ (j .updater-verdict .ensures) (t .enum-told .given .1)) refl
     (sym (c .before .past-end .ensures) ∙ c .if1 .taken)) refl in
-    (d .0, (let e = d .1 in cc))
+    (d .0, rw (← d .1))
 
 copy-out-requires : tie.Need-copy-out-requires
 unfolding pastEnd
@@ -57,7 +57,7 @@ returns-3 c =
     let d = read-done (a .self .sizes) (a .offset) (a .buf .now) (a .dfu .now) (a .state .now)
     (updater-passed _ _ _ _ _ (verdict-admitted _ _ (j .updater-verdict .ensures) (t .enum-told .given .1)) refl
     (sym (i .before .past-end .ensures) ∙ i .if1 .left)) refl (c .before .before .copy-out .ensures) in
-    (d .0, (let e = d .1 in cc))
+    (d .0, rw (← d .1))
 
 pub read-dfu-spec : {M : Type 1} → statement M
 read-dfu-spec =
