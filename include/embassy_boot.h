@@ -1,11 +1,25 @@
-/* The C boundary of the boot loader and the firmware updater, as the crate embassy_boot exports it. It is here so that C can link
- * libembassy_boot.a; what each function does is proved of the crate's own functions, and the number of every answer is said below.
+/* The blocking boot loader, firmware state and firmware updater of embassy-boot 0.7.0, proved, for C to link.
  *
- * An area is a pointer and its length in bytes. Pointers must be valid for that length, and lent areas must not overlap. A length
- * of 0 still wants a pointer that is not null. Nothing else is asked of a caller: what does not fit is refused.
+ *   rt staticlib embassy_boot                                    makes target/staticlib/libembassy_boot.a, for x86-64 Linux
+ *   cc -Iinclude yours.c target/staticlib/libembassy_boot.a
  *
- * Sizes in bytes: ea, wa are the erase and the write size of the active area, ed, wd those of DFU, es, ws those of the state area,
- * and b is the chunk in which a page is copied. budget is the most operations (writes and erases) that may be done.
+ * This page says all that a caller needs. docs/RULES.md has the same rules in their own order, docs/DIFFERENCES.md where they
+ * differ from the crate's, and examples/sweep.c is a whole program. What each function does is proved of the library, for every
+ * input; that this header names its parameters in the library's order is tested by tests/c.
+ *
+ * Flash is memory of the caller's. There are three areas: active (the image that is run), DFU (the image to come, and a page more)
+ * and state (what is to be done, and how far it is). An erase sets a unit's bytes to FF. A write leaves each byte as old AND new,
+ * so bits only fall. Each erased unit is one operation, and so is each write. Reading is free.
+ *
+ * Sizes, in bytes (`struct eb_geometry` below holds all seven):
+ *   ea, wa   erase and write size of active            ACTIVE::ERASE_SIZE, ACTIVE::WRITE_SIZE in the crate
+ *   ed, wd   erase and write size of DFU               DFU::ERASE_SIZE, DFU::WRITE_SIZE; an erase unit of DFU is a sector
+ *   es, ws   erase and write size of the state area    STATE::ERASE_SIZE, STATE::WRITE_SIZE; ws bytes are a state word
+ *   b        the chunk in which a page is copied       aligned_buf.len()
+ * P, the page, is the larger of ea and ed. N is the number of pages in active, T the number of words in the state area.
+ *
+ * What is asked of a caller: a pointer is valid for its length, lent areas do not overlap, and a length of 0 still comes with a
+ * pointer that is not null. Nothing else: what does not fit is refused.
  */
 #ifndef EMBASSY_BOOT_H
 #define EMBASSY_BOOT_H
@@ -17,69 +31,249 @@
 extern "C" {
 #endif
 
-/* A result is number * 2^40 + state * 2^32 + operations; these three take it apart. */
+/* A call whose result is dropped was a mistake: it may have been refused or cut. */
+#if defined(__GNUC__) || defined(__clang__)
+#define EB_RESULT __attribute__((warn_unused_result))
+#else
+#define EB_RESULT
+#endif
+
+/* ---- Results ----
+ *
+ * A result is number * 2^40 + state * 2^32 + operations; these three take it apart. Operations are those done: all of the call's
+ * where it is done, the budget where it is cut, 0 where it is refused. */
 static inline uint32_t eb_number(uint64_t result) { return (uint32_t)(result >> 40); }
 static inline uint32_t eb_state(uint64_t result) { return (uint32_t)(result >> 32) & 0xFF; }
 static inline uint32_t eb_operations(uint64_t result) { return (uint32_t)result; }
 
-/* The number: done, a refusal (nothing was changed, 0 operations), or a cut (the budget was used up before the end). */
+/* The number: done, a refusal, or a cut. A refusal has changed no area, no output buffer and no memory of an updater. Where several
+ * hold, the lowest is given. Which of them a call can give stands with the call. */
 enum {
     EB_DONE = 0,
-    EB_LIMIT = 1,      /* a size is 0 or above 65,536, or an area is longer than 1,048,576 */
-    EB_PAGE = 2,       /* the sizes do not divide a page, or DFU's erase size is no multiple of its write size */
-    EB_AREA = 3,       /* an image is no whole number of pages or sectors, or DFU is too short */
-    EB_STATE_AREA = 4, /* the state area is no whole number of units, or has too few words */
-    EB_BAD_STATE = 5,  /* a swap is pending */
-    EB_RANGE = 6,      /* the bytes asked for are not in DFU, or not on its write units */
+
+    /* A size that the call reads is 0 or above 65,536, or a flash area that it is lent is longer than 1,048,576 bytes. */
+    EB_LIMIT = 1,
+
+    /* eb_prepare_boot: the page P is no multiple of one of ea, ed, wa, wd and b; or b is no multiple of wa or of wd; or b is below
+     * ws, for the buffer of the chunk is also the one through which the crate reads and writes a state word.
+     * Updater: ed is no multiple of wd. */
+    EB_PAGE = 2,
+
+    /* eb_prepare_boot: active or DFU is no whole number of pages, or DFU is not at least a page longer than active.
+     * Updater: DFU is no whole number of sectors. */
+    EB_AREA = 3,
+
+    /* es is no multiple of ws, or the state area is no whole number of its erase units, or it has too few words: eb_prepare_boot
+     * wants T >= 4N + 3, every other call T >= 2. */
+    EB_STATE_AREA = 4,
+
+    /* A swap is pending: the state reads Swap. That is so from mark_updated on until the swapped firmware is confirmed by
+     * mark_booted or a boot has taken it back. Only the updater's mark_dfu, write_firmware and prepare_update ask. */
+    EB_BAD_STATE = 5,
+
+    /* eb_updater_read_dfu: offset + out_length is above dfu_length. eb_updater_write_firmware, where data is not empty: offset or
+     * data_length is no multiple of wd, or offset + data_length is above dfu_length. No sum wraps. */
+    EB_RANGE = 6,
+
+    /* The budget was used up and one more operation was wanted. Precisely the operations done are in the flash, in order, and each
+     * of them whole: the power failed there. */
     EB_CUT = 7
 };
 
 /* The state. Only a call that is done carries one, and only eb_prepare_boot, eb_read_state and the get_state calls do. */
-enum { EB_BOOT = 0, EB_SWAP = 1, EB_REVERT = 2, EB_DFU_DETACH = 3, EB_NO_STATE = 255 };
+enum {
+    EB_BOOT = 0,       /* nothing to do; any word that is none of the other three magics reads so */
+    EB_SWAP = 1,       /* an update is marked, or it is swapped in and not confirmed yet */
+    EB_REVERT = 2,     /* a boot took an update back */
+    EB_DFU_DETACH = 3, /* the application asked for an update over USB */
+    EB_NO_STATE = 255  /* the answer carries none */
+};
+
+/* Names, for messages: those of docs/RULES.md and of the Rust wrapper. */
+static inline const char *eb_number_name(uint32_t number)
+{
+    static const char *const names[] = {"Done", "Limit", "Page", "Area", "StateArea", "BadState", "Range", "Cut"};
+    return number < sizeof names / sizeof *names ? names[number] : "?";
+}
+static inline const char *eb_state_name(uint32_t state)
+{
+    static const char *const names[] = {"Boot", "Swap", "Revert", "DfuDetach"};
+    return state < sizeof names / sizeof *names ? names[state] : "none";
+}
+
+/* A budget is the most operations that a call may do, as if the power failed after them. No call wants more than this one. */
+#define EB_FOREVER UINT32_C(4294967295)
 
 /* The updater's memory where no sector was erased yet. */
 #define EB_NO_SECTOR UINT32_C(4294967295)
 
-/* Swaps the images if an update is marked, or undoes the swap if it was not confirmed. Carries the state read at entry. */
-uint64_t eb_prepare_boot(uint8_t *active, size_t active_length, uint8_t *dfu, size_t dfu_length, uint8_t *state,
-                         size_t state_length, uint32_t ea, uint32_t wa, uint32_t ed, uint32_t wd, uint32_t es, uint32_t ws,
-                         uint32_t b, uint32_t budget);
+/* ---- The boot loader ---- */
 
-/* The state that the state area holds, as the boot loader reads it, and as the application does. */
-uint64_t eb_read_state(const uint8_t *state, size_t state_length, uint32_t es, uint32_t ws);
-uint64_t eb_state_get_state(const uint8_t *state, size_t state_length, uint32_t es, uint32_t ws);
+/* To be called at each start, before the active image is run; and after a cut again, before anything is run, for active may be half
+ * old and half new then. What it does is told by the state area alone. Word 0 holds the state, word 1 the validity, word 2 + i the
+ * mark of step i, of 4N steps; marks are counted from the first one up to the first that is open.
+ *
+ *   Boot, Revert or DfuDetach: nothing, 0 operations.
+ *   Swap, validity FF, fewer than 2N marks: the swap, from its first open step on. From a fresh mark, whatever cuts fell, it ends
+ *     with active holding what DFU held, and DFU what active held, a page further on.
+ *   Swap, validity FF, 2N marks or more: the swap is done and nobody confirmed it, so it is undone from its first open step on, and
+ *     the state becomes Revert. Active is then as before the swap.
+ *   Swap, validity gone, 2N to 4N - 1 marks: mark_booted was cut. It is finished: the state becomes Boot, no image is changed.
+ *   Swap, validity gone, any other count: the state becomes Revert, no image is changed. So ends a revert that was cut at its end.
+ *
+ * Carries the state read at entry: EB_SWAP after a revert too. Refusals: 1, 2, 3, 4. */
+EB_RESULT uint64_t eb_prepare_boot(uint8_t *active, size_t active_length, uint8_t *dfu, size_t dfu_length, uint8_t *state,
+                                   size_t state_length, uint32_t ea, uint32_t wa, uint32_t ed, uint32_t wd, uint32_t es,
+                                   uint32_t ws, uint32_t b, uint32_t budget);
 
-/* The next boot swaps the images; starts the USB update; does not undo the swap. */
-uint64_t eb_state_mark_updated(uint8_t *state, size_t state_length, uint32_t es, uint32_t ws, uint32_t budget);
-uint64_t eb_state_mark_dfu(uint8_t *state, size_t state_length, uint32_t es, uint32_t ws, uint32_t budget);
-uint64_t eb_state_mark_booted(uint8_t *state, size_t state_length, uint32_t es, uint32_t ws, uint32_t budget);
+/* The state that the state area holds. 0 operations. Refusals: 1, 4, with T >= 2 as for every call but a boot. */
+EB_RESULT uint64_t eb_read_state(const uint8_t *state, size_t state_length, uint32_t es, uint32_t ws);
 
-/* The same from the updater, which looks at DFU's sizes too. Its mark_dfu is refused while a swap is pending. */
-uint64_t eb_updater_get_state(const uint8_t *dfu, size_t dfu_length, const uint8_t *state, size_t state_length, uint32_t ed,
-                              uint32_t wd, uint32_t es, uint32_t ws);
-uint64_t eb_updater_mark_updated(const uint8_t *dfu, size_t dfu_length, uint8_t *state, size_t state_length, uint32_t ed,
-                                 uint32_t wd, uint32_t es, uint32_t ws, uint32_t budget);
-uint64_t eb_updater_mark_dfu(const uint8_t *dfu, size_t dfu_length, uint8_t *state, size_t state_length, uint32_t ed,
-                             uint32_t wd, uint32_t es, uint32_t ws, uint32_t budget);
-uint64_t eb_updater_mark_booted(const uint8_t *dfu, size_t dfu_length, uint8_t *state, size_t state_length, uint32_t ed,
-                                uint32_t wd, uint32_t es, uint32_t ws, uint32_t budget);
+/* ---- The state area, from the application ----
+ *
+ * Refusals of each: 1, 4. A mark does nothing, with 0 operations, where word 0 holds its magic throughout already. Else it makes
+ * the progress invalid (one write, left out where it is invalid already), erases the state area (an operation for each unit) and
+ * writes the magic. A mark that is cut is made by calling again; until then the state reads as it did, or Boot. */
 
-/* Fills out with the bytes of DFU from offset on. A refusal leaves out as it is. */
-uint64_t eb_updater_read_dfu(const uint8_t *dfu, size_t dfu_length, const uint8_t *state, size_t state_length, uint32_t ed,
-                             uint32_t wd, uint32_t es, uint32_t ws, uint32_t offset, uint8_t *out, size_t out_length);
+/* The same answer as eb_read_state, under the application's name for it. */
+EB_RESULT uint64_t eb_state_get_state(const uint8_t *state, size_t state_length, uint32_t es, uint32_t ws);
 
-/* Writes data at offset of DFU, sector by sector; a sector is erased first unless it is the one last erased. *last is that memory:
- * start with EB_NO_SECTOR, and hand the same variable to each call of one update. A refusal leaves it as it came. */
-uint64_t eb_updater_write_firmware(uint8_t *dfu, size_t dfu_length, const uint8_t *state, size_t state_length, uint32_t ed,
-                                   uint32_t wd, uint32_t es, uint32_t ws, uint64_t offset, const uint8_t *data,
-                                   size_t data_length, uint32_t *last, uint32_t budget);
+/* The next boot swaps the images. On a device whose swap is done and not confirmed the state is Swap already: there this does
+ * nothing, and the next boot takes the swap back. Confirm first. */
+EB_RESULT uint64_t eb_state_mark_updated(uint8_t *state, size_t state_length, uint32_t es, uint32_t ws, uint32_t budget);
 
-/* Erases all of DFU, unit by unit: each is one operation. */
-uint64_t eb_updater_prepare_update(uint8_t *dfu, size_t dfu_length, const uint8_t *state, size_t state_length, uint32_t ed,
-                                   uint32_t wd, uint32_t es, uint32_t ws, uint32_t budget);
+/* The next boot answers EB_DFU_DETACH and leaves the rest to the caller. Nothing is asked: a swap that is pending is forgotten. */
+EB_RESULT uint64_t eb_state_mark_dfu(uint8_t *state, size_t state_length, uint32_t es, uint32_t ws, uint32_t budget);
 
-/* The state that a word of these bytes stands for; no bytes at all read EB_SWAP. */
-uint32_t eb_state_from(const uint8_t *bytes, size_t length);
+/* The firmware that runs is confirmed: the next boot does not undo the swap. Only firmware that was started after a boot that was
+ * done may say so. Said from outside after a boot that was cut, it can keep a mixture of both images (docs/DIFFERENCES.md). */
+EB_RESULT uint64_t eb_state_mark_booted(uint8_t *state, size_t state_length, uint32_t es, uint32_t ws, uint32_t budget);
+
+/* ---- The updater ----
+ *
+ * The application's side of an update; it looks at DFU's sizes too. Refusals of each: 1, 2, 3, 4, and what is said with it. */
+
+/* The four calls of the state area. The updater's mark_dfu is refused with 5 while a swap is pending. */
+EB_RESULT uint64_t eb_updater_get_state(const uint8_t *dfu, size_t dfu_length, const uint8_t *state, size_t state_length,
+                                        uint32_t ed, uint32_t wd, uint32_t es, uint32_t ws);
+EB_RESULT uint64_t eb_updater_mark_updated(const uint8_t *dfu, size_t dfu_length, uint8_t *state, size_t state_length,
+                                           uint32_t ed, uint32_t wd, uint32_t es, uint32_t ws, uint32_t budget);
+EB_RESULT uint64_t eb_updater_mark_dfu(const uint8_t *dfu, size_t dfu_length, uint8_t *state, size_t state_length, uint32_t ed,
+                                       uint32_t wd, uint32_t es, uint32_t ws, uint32_t budget);
+EB_RESULT uint64_t eb_updater_mark_booted(const uint8_t *dfu, size_t dfu_length, uint8_t *state, size_t state_length,
+                                          uint32_t ed, uint32_t wd, uint32_t es, uint32_t ws, uint32_t budget);
+
+/* Fills out with the bytes of DFU from offset on; the offset need not stand on a write unit. 0 operations. Also refused: 6. */
+EB_RESULT uint64_t eb_updater_read_dfu(const uint8_t *dfu, size_t dfu_length, const uint8_t *state, size_t state_length,
+                                       uint32_t ed, uint32_t wd, uint32_t es, uint32_t ws, uint32_t offset, uint8_t *out,
+                                       size_t out_length);
+
+/* Writes data at offset of DFU, in pieces up to each sector's end: the sector is erased unless it is the one last erased, then the
+ * piece is written, an operation each. *last is that memory: start an update with EB_NO_SECTOR and hand the same variable to each
+ * call of it. It is set when an erase is done, also where the call is cut later; a refusal leaves it as it came. To go back to an
+ * earlier sector erases that again, with what was written there. A value that is no sector of DFU has the effect of another sector.
+ * Empty data is done with 0 operations, at any offset. Also refused: 6, and 5 while a swap is pending, so that an update that was
+ * swapped in must be confirmed before the next one is written. */
+EB_RESULT uint64_t eb_updater_write_firmware(uint8_t *dfu, size_t dfu_length, const uint8_t *state, size_t state_length,
+                                             uint32_t ed, uint32_t wd, uint32_t es, uint32_t ws, uint64_t offset,
+                                             const uint8_t *data, size_t data_length, uint32_t *last, uint32_t budget);
+
+/* Erases all of DFU, unit by unit: an operation each. eb_updater_write_firmware's memory has no part in it. Also refused: 5 while a
+ * swap is pending. */
+EB_RESULT uint64_t eb_updater_prepare_update(uint8_t *dfu, size_t dfu_length, const uint8_t *state, size_t state_length,
+                                             uint32_t ed, uint32_t wd, uint32_t es, uint32_t ws, uint32_t budget);
+
+/* ---- A word ---- */
+
+/* The state, EB_BOOT to EB_DFU_DETACH, that a word of these bytes stands for: it must hold the magic's byte throughout. No bytes at
+ * all read EB_SWAP. */
+EB_RESULT uint32_t eb_state_from(const uint8_t *bytes, size_t length);
+
+/* ---- The same calls with the sizes in a record ----
+ *
+ * `NAME_with` is NAME with the record in the numbers' place; it reads the fields that NAME names and no others. Fill it by names,
+ * as in {.ea = 4096, .wa = 8, ..}. */
+struct eb_geometry {
+    uint32_t ea; /* active: erase size */
+    uint32_t wa; /* active: write size */
+    uint32_t ed; /* DFU: erase size, a sector */
+    uint32_t wd; /* DFU: write size */
+    uint32_t es; /* state area: erase size */
+    uint32_t ws; /* state area: write size, a word */
+    uint32_t b;  /* the chunk in which a page is copied */
+};
+
+EB_RESULT static inline uint64_t eb_prepare_boot_with(uint8_t *active, size_t active_length, uint8_t *dfu, size_t dfu_length,
+                                                      uint8_t *state, size_t state_length, const struct eb_geometry *g,
+                                                      uint32_t budget)
+{
+    return eb_prepare_boot(active, active_length, dfu, dfu_length, state, state_length, g->ea, g->wa, g->ed, g->wd, g->es, g->ws,
+                           g->b, budget);
+}
+EB_RESULT static inline uint64_t eb_read_state_with(const uint8_t *state, size_t state_length, const struct eb_geometry *g)
+{
+    return eb_read_state(state, state_length, g->es, g->ws);
+}
+
+EB_RESULT static inline uint64_t eb_state_get_state_with(const uint8_t *state, size_t state_length, const struct eb_geometry *g)
+{
+    return eb_state_get_state(state, state_length, g->es, g->ws);
+}
+EB_RESULT static inline uint64_t eb_state_mark_updated_with(uint8_t *state, size_t state_length, const struct eb_geometry *g,
+                                                            uint32_t budget)
+{
+    return eb_state_mark_updated(state, state_length, g->es, g->ws, budget);
+}
+EB_RESULT static inline uint64_t eb_state_mark_dfu_with(uint8_t *state, size_t state_length, const struct eb_geometry *g,
+                                                        uint32_t budget)
+{
+    return eb_state_mark_dfu(state, state_length, g->es, g->ws, budget);
+}
+EB_RESULT static inline uint64_t eb_state_mark_booted_with(uint8_t *state, size_t state_length, const struct eb_geometry *g,
+                                                           uint32_t budget)
+{
+    return eb_state_mark_booted(state, state_length, g->es, g->ws, budget);
+}
+
+EB_RESULT static inline uint64_t eb_updater_get_state_with(const uint8_t *dfu, size_t dfu_length, const uint8_t *state,
+                                                           size_t state_length, const struct eb_geometry *g)
+{
+    return eb_updater_get_state(dfu, dfu_length, state, state_length, g->ed, g->wd, g->es, g->ws);
+}
+EB_RESULT static inline uint64_t eb_updater_mark_updated_with(const uint8_t *dfu, size_t dfu_length, uint8_t *state,
+                                                              size_t state_length, const struct eb_geometry *g, uint32_t budget)
+{
+    return eb_updater_mark_updated(dfu, dfu_length, state, state_length, g->ed, g->wd, g->es, g->ws, budget);
+}
+EB_RESULT static inline uint64_t eb_updater_mark_dfu_with(const uint8_t *dfu, size_t dfu_length, uint8_t *state,
+                                                          size_t state_length, const struct eb_geometry *g, uint32_t budget)
+{
+    return eb_updater_mark_dfu(dfu, dfu_length, state, state_length, g->ed, g->wd, g->es, g->ws, budget);
+}
+EB_RESULT static inline uint64_t eb_updater_mark_booted_with(const uint8_t *dfu, size_t dfu_length, uint8_t *state,
+                                                             size_t state_length, const struct eb_geometry *g, uint32_t budget)
+{
+    return eb_updater_mark_booted(dfu, dfu_length, state, state_length, g->ed, g->wd, g->es, g->ws, budget);
+}
+EB_RESULT static inline uint64_t eb_updater_read_dfu_with(const uint8_t *dfu, size_t dfu_length, const uint8_t *state,
+                                                          size_t state_length, const struct eb_geometry *g, uint32_t offset,
+                                                          uint8_t *out, size_t out_length)
+{
+    return eb_updater_read_dfu(dfu, dfu_length, state, state_length, g->ed, g->wd, g->es, g->ws, offset, out, out_length);
+}
+EB_RESULT static inline uint64_t eb_updater_write_firmware_with(uint8_t *dfu, size_t dfu_length, const uint8_t *state,
+                                                                size_t state_length, const struct eb_geometry *g,
+                                                                uint64_t offset, const uint8_t *data, size_t data_length,
+                                                                uint32_t *last, uint32_t budget)
+{
+    return eb_updater_write_firmware(dfu, dfu_length, state, state_length, g->ed, g->wd, g->es, g->ws, offset, data, data_length,
+                                     last, budget);
+}
+EB_RESULT static inline uint64_t eb_updater_prepare_update_with(uint8_t *dfu, size_t dfu_length, const uint8_t *state,
+                                                                size_t state_length, const struct eb_geometry *g, uint32_t budget)
+{
+    return eb_updater_prepare_update(dfu, dfu_length, state, state_length, g->ed, g->wd, g->es, g->ws, budget);
+}
 
 #ifdef __cplusplus
 }

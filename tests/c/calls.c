@@ -175,11 +175,67 @@ static void updates(void)
     CHECK(is(eb_updater_mark_updated(dfu, 16, state, 16, 3, 2, 16, 1, 9), EB_PAGE, EB_NO_STATE, 0));
 }
 
+/* The calls that take the sizes in a record hand each number to its place: seven different ones, admitted, and then each of them as
+ * 0, which is refused just where the call reads it. */
+static uint8_t active_2[64], dfu_3[96], state_64[64], out_2[2];
+
+static void with_a_record(const struct eb_geometry *g, uint32_t boots, uint32_t states, uint32_t updaters)
+{
+    uint32_t last = EB_NO_SECTOR;
+    memset(state_64, 0xFF, 64);
+    CHECK(eb_number(eb_read_state_with(state_64, 64, g)) == states);
+    CHECK(eb_number(eb_state_get_state_with(state_64, 64, g)) == states);
+    CHECK(eb_number(eb_state_mark_dfu_with(state_64, 64, g, 9)) == states);
+    CHECK(eb_number(eb_state_mark_booted_with(state_64, 64, g, 9)) == states);
+    CHECK(eb_number(eb_updater_get_state_with(dfu_3, 96, state_64, 64, g)) == updaters);
+    CHECK(eb_number(eb_updater_mark_dfu_with(dfu_3, 96, state_64, 64, g, 9)) == updaters);
+    CHECK(eb_number(eb_updater_mark_booted_with(dfu_3, 96, state_64, 64, g, 9)) == updaters);
+    CHECK(eb_number(eb_updater_prepare_update_with(dfu_3, 96, state_64, 64, g, 9)) == updaters);
+    CHECK(eb_number(eb_updater_write_firmware_with(dfu_3, 96, state_64, 64, g, 4, out_2, 2, &last, 9)) == updaters);
+    CHECK(eb_number(eb_updater_read_dfu_with(dfu_3, 96, state_64, 64, g, 4, out_2, 2)) == updaters);
+    CHECK(eb_number(eb_updater_mark_updated_with(dfu_3, 96, state_64, 64, g, 9)) == updaters);
+    CHECK(eb_number(eb_state_mark_updated_with(state_64, 64, g, 9)) == states);
+    CHECK(eb_number(eb_prepare_boot_with(active_2, 64, dfu_3, 96, state_64, 64, g, EB_FOREVER)) == boots);
+}
+
+static void records(void)
+{
+    const struct eb_geometry g = {.ea = 8, .wa = 4, .ed = 32, .wd = 2, .es = 64, .ws = 1, .b = 16};
+    struct eb_geometry h;
+
+    with_a_record(&g, EB_DONE, EB_DONE, EB_DONE);
+    /* two pages, and for each a step to DFU (a unit, two chunks, a mark) and one to active (four units, two chunks, a mark) */
+    memset(state_64, 0xFF, 64);
+    CHECK(is(eb_state_mark_updated_with(state_64, 64, &g, EB_FOREVER), EB_DONE, EB_NO_STATE, 3));
+    CHECK(is(eb_prepare_boot_with(active_2, 64, dfu_3, 96, state_64, 64, &g, EB_FOREVER), EB_DONE, EB_SWAP, 22));
+    h = g, h.ea = 0, with_a_record(&h, EB_LIMIT, EB_DONE, EB_DONE);
+    h = g, h.wa = 0, with_a_record(&h, EB_LIMIT, EB_DONE, EB_DONE);
+    h = g, h.b = 0, with_a_record(&h, EB_LIMIT, EB_DONE, EB_DONE);
+    h = g, h.ed = 0, with_a_record(&h, EB_LIMIT, EB_DONE, EB_LIMIT);
+    h = g, h.wd = 0, with_a_record(&h, EB_LIMIT, EB_DONE, EB_LIMIT);
+    h = g, h.es = 0, with_a_record(&h, EB_LIMIT, EB_LIMIT, EB_LIMIT);
+    h = g, h.ws = 0, with_a_record(&h, EB_LIMIT, EB_LIMIT, EB_LIMIT);
+    /* of two sizes that are both read, the larger one's place is told by the refusal */
+    h = g, h.ws = 32, with_a_record(&h, EB_PAGE, EB_DONE, EB_DONE);
+    h = g, h.es = 1, h.ws = 64, with_a_record(&h, EB_PAGE, EB_STATE_AREA, EB_STATE_AREA);
+    h = g, h.ed = 2, h.wd = 32, with_a_record(&h, EB_PAGE, EB_DONE, EB_PAGE);
+}
+
+static void names(void)
+{
+    CHECK(!strcmp(eb_number_name(EB_DONE), "Done") && !strcmp(eb_number_name(EB_STATE_AREA), "StateArea"));
+    CHECK(!strcmp(eb_number_name(EB_CUT), "Cut") && !strcmp(eb_number_name(1000), "?"));
+    CHECK(!strcmp(eb_state_name(EB_BOOT), "Boot") && !strcmp(eb_state_name(EB_DFU_DETACH), "DfuDetach"));
+    CHECK(!strcmp(eb_state_name(EB_NO_STATE), "none"));
+}
+
 int main(void)
 {
     boots();
     states();
     updates();
+    records();
+    names();
     if (!failed)
         puts("every call as document 01 says");
     return failed != 0;
