@@ -16,6 +16,8 @@ macro_rules! safe {
         $(: &[$r:ident; $r_length:ident])? $(: &mut [$c:ident; $c_length:ident])? $(: &mut $m:ident)? $(: $n:ident)?
         $({ $($size:ident),* })?
     ),*) -> $result:ident) => {
+        #[doc = concat!("`", stringify!($name), "` of the header.")]
+        #[must_use = "a call may have been refused or cut"]
         pub fn $name(
             $($($p: &[$r])? $($p: &mut [$c])? $($p: &mut $m)? $($p: $n)? $($p { $($size),* }: $p)?),*
         ) -> $result {

@@ -1,13 +1,17 @@
 //! Every call through the wrapper, compared with document 01's bench sheet: the slices, sizes and parts of a result must arrive where
 //! the library expects them. Expected values are the paper's.
 
+use std::error::Error;
+
 use embassy_boot_rattle::{
-    Answer, BootLoader, FOREVER, FirmwareState, FirmwareUpdater, Geometry, Refusal, Sizes, State,
+    Answer, BootLoader, FOREVER, Finished, FirmwareState, FirmwareUpdater, Geometry, Refusal, Sizes, State,
+    Stopped,
 };
 
-const LOADER: BootLoader = BootLoader(Geometry { ea: 4, wa: 2, ed: 4, wd: 2, es: 16, ws: 1, b: 2 });
-const FIRMWARE: FirmwareState = FirmwareState { es: 16, ws: 1 };
-const SIZES: Sizes = Sizes { ed: 4, wd: 2, es: 16, ws: 1 };
+const SHEET: Geometry = Geometry { ea: 4, wa: 2, ed: 4, wd: 2, es: 16, ws: 1, b: 2 };
+const LOADER: BootLoader = BootLoader::new(SHEET);
+const FIRMWARE: FirmwareState = SHEET.firmware_state();
+const SIZES: Sizes = SHEET.sizes();
 
 fn pages(bytes: &[u8]) -> Vec<u8> {
     bytes.iter().flat_map(|byte| [*byte; 4]).collect()
@@ -160,4 +164,29 @@ fn states_of_words() {
     assert_eq!(State::from_bytes(&[0xC0]), State::Revert);
     assert_eq!(State::from_bytes(&[0xE0; 3]), State::DfuDetach);
     assert_eq!(State::from_bytes(&[]), State::Swap);
+}
+
+#[test]
+fn parts_of_a_geometry() {
+    let geometry = Geometry { ea: 1, wa: 2, ed: 3, wd: 4, es: 5, ws: 6, b: 7 };
+    assert_eq!(geometry.sizes(), Sizes { ed: 3, wd: 4, es: 5, ws: 6 });
+    assert_eq!(geometry.firmware_state(), FirmwareState { es: 5, ws: 6 });
+}
+
+#[test]
+fn answers_as_results_and_texts() {
+    let done = Result::from(Answer::Done(3));
+    assert_eq!(done, Ok(Finished { state: None, operations: 3 }));
+    let refusals =
+        [Refusal::Limit, Refusal::Page, Refusal::Area, Refusal::StateArea, Refusal::BadState, Refusal::Range];
+    for (refusal, number) in refusals.into_iter().zip(1..) {
+        let answer = Answer::Refused(refusal);
+        assert_eq!(answer.result(), Err(Stopped::Refused(refusal)));
+        assert_eq!(refusal.number(), number);
+        assert!(answer.to_string().starts_with(&format!("refused with {number}: ")));
+    }
+    assert_eq!(Answer::Found(State::DfuDetach, 0).to_string(), "done, found DfuDetach, 0 operations");
+    assert_eq!(Answer::Done(3).to_string(), "done, 3 operations");
+    let error: Box<dyn Error> = Answer::Cut(23).result().unwrap_err().into();
+    assert_eq!(error.to_string(), "cut after 23 operations");
 }
