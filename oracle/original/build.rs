@@ -10,6 +10,7 @@
 //! is used. The comparison runs on src/mem_flash.rs, whose areas have their length at run time.
 
 use std::path::{Path, PathBuf};
+use std::process::exit;
 use std::{env, fs};
 
 /// What becomes of one line of the source.
@@ -75,7 +76,19 @@ fn source_folder() -> PathBuf {
         .into_iter()
         .find(|folder| folder.join("lib.rs").is_file())
         .and_then(|folder| folder.canonicalize().ok())
-        .unwrap_or_else(|| panic!("no src/lib.rs in {}: set EMBASSY_BOOT_SRC", given.display()))
+        .unwrap_or_else(|| {
+            say_no(&format!(
+                "{} has no src/lib.rs: set EMBASSY_BOOT_SRC to the folder that holds the src/ of embassy-boot 0.7.0",
+                given.display()
+            ))
+        })
+}
+
+/// Stops the build with one line.
+fn say_no(why: &str) -> ! {
+    println!("cargo::error={why}");
+    // cargo stops at the line; at another status it would print all that this script said as well
+    exit(0);
 }
 
 fn rewrite(from: &Path, rules: &[Rule], to: &Path) {

@@ -29,6 +29,13 @@ struct Wanted {
 
 fn main() {
     let wanted = wanted();
+    if !wanted.program.is_file() {
+        let program = wanted.program.display();
+        eprintln!(
+            "{program} isn't there: run `rt check bench` in the repository's root, or name another by --program"
+        );
+        exit(2);
+    }
     println!("seed {}, program {}", wanted.seed, wanted.program.display());
     let mut judge = Judge { program: Program(wanted.program), ..Judge::default() };
     let examples = judge.examples(&wanted.examples);
