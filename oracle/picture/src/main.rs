@@ -16,8 +16,8 @@ const NOTES: [&str; 3] = [
      page it is copied from stands",
     "whole elsewhere, and its mark is written last; so the next boot makes a half made page again from its source. The \
      firmware is started only by a boot",
-    "that is not cut, and what such a boot leaves, the lower band, is the same in every column: the new image whole, or \
-     after a revert the old one.",
+    "that is not cut, and the images that it leaves, in the lower band, are the same in every column: the new one whole, \
+     or after a revert the old one.",
 ];
 
 /// The title and the notes want this much.

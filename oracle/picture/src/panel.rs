@@ -61,9 +61,9 @@ impl<'a> Panel<'a> {
         MARGIN + self.columns() * COLUMN + 20
     }
 
-    /// Heights: title, steps, letters and numbers; the band above with the state; the band below with its count.
+    /// Heights: title, steps, letters and numbers; the band above with the state; the band below with state and count.
     pub fn height(&self) -> i32 {
-        26 + 3 * ROW + rows(PAGE).1 + ROW + BETWEEN + rows(LOW_PAGE).1 + ROW + 30
+        26 + 3 * ROW + rows(PAGE).1 + ROW + BETWEEN + rows(LOW_PAGE).1 + 2 * ROW + 30
     }
 
     pub fn draw(&self, svg: &mut Svg, top: i32) {
@@ -72,11 +72,13 @@ impl<'a> Panel<'a> {
         let above = steps + 3 * ROW;
         let state = above + rows(PAGE).1;
         let below = state + ROW + BETWEEN;
-        let counts = below + rows(LOW_PAGE).1;
+        let state_below = below + rows(LOW_PAGE).1;
+        let counts = state_below + ROW;
         self.draw_steps(svg, steps);
         self.draw_images(svg, above, PAGE, |frame| &frame.left);
-        self.draw_state(svg, state);
+        self.draw_state(svg, state, |frame| &frame.left);
         self.draw_images(svg, below, LOW_PAGE, |frame| &frame.ended);
+        self.draw_state(svg, state_below, |frame| &frame.ended);
         self.draw_counts(svg, counts);
         self.draw_separators(svg, steps, above, state + ROW - 2);
         self.draw_separators(svg, below, below, counts + ROW);
@@ -183,10 +185,10 @@ impl<'a> Panel<'a> {
         (MARGIN + from as i32 * COLUMN, (to - from) as i32 * COLUMN)
     }
 
-    fn draw_state(&self, svg: &mut Svg, y: i32) {
+    fn draw_state(&self, svg: &mut Svg, y: i32, of: impl Fn(&Frame) -> &Bench) {
         svg.text(MARGIN - 10, y + 12, svg::RIGHT, "marks in state area");
         let said: Vec<String> =
-            self.story.frames.iter().map(|frame| runs::state_word(&frame.left.state)).collect();
+            self.story.frames.iter().map(|frame| runs::state_word(&of(frame).state)).collect();
         for (from, to) in runs_of(&said) {
             let (x, width) = self.span(from, to);
             svg.rect(x, y, width - 1, ROW - 2, "#eee");
