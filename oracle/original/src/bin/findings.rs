@@ -79,6 +79,7 @@ fn main() {
     far_offsets();
     half_done_refusals();
     uneven_areas();
+    no_limits();
     labels();
     short_state_area();
     sector_memory();
@@ -171,6 +172,52 @@ fn uneven_areas() {
     let state = [0xF0, 0xF0, 0xFF, 0xFF, 0xFF, 0xFF];
     let side = Sizes::<2, 1, 2, 1, 3, 2> {};
     ask("Es 3, Ws 2 (refusal 4)", &side, &call(Kind::PrepareBoot, odd), &mut bench(&[], &[0; 2], &state));
+}
+
+fn no_limits() {
+    println!("\nSizes without limits (refusal 1), and what the updater doesn't ask (refusal 2)");
+    tell("Ea = Ed = b = 65,537, one page, state reads Swap", || {
+        let large = Geometry { ea: 65_537, ed: 65_537, b: 65_537, ..ONES };
+        let state = [0xF0, 0xFF, 0xFF, 0xFF, 0xFF, 0xFF, 0xFF];
+        let mut bench = bench(&[1; 65_537], &[2; 131_074], &state);
+        let word =
+            Sizes::<65_537, 1, 65_537, 1, 1, 1> {}.answer(&call(Kind::PrepareBoot, large), bench.lend());
+        Word(word).to_string()
+    });
+    tell("La 1,048,577, no update marked", || {
+        let long = (4 << 18) + 1;
+        let mut bench = bench(&vec![1; long], &vec![2; long + 1], &vec![0xFF; 4 * long + 3]);
+        Word(Ones {}.answer(&call(Kind::PrepareBoot, ONES), bench.lend())).to_string()
+    });
+    let none = Geometry { es: 0, ..ONES };
+    let side = Sizes::<1, 1, 1, 1, 0, 1> {};
+    ask(
+        "Es 0, nothing to erase",
+        &side,
+        &call(Kind::StateGetState, none),
+        &mut bench(&[], &[], &[0xF0, 0xFF]),
+    );
+    ask("Es 0", &side, &call(Kind::StateMarkBooted, none), &mut bench(&[], &[], &[0xF0, 0xFF]));
+    tell("Ed 3, Wd 2, Ld 3 (55 66 77): two bytes at 0", || {
+        let supply = Supply::new(99);
+        let (mut dfu, mut state, mut word) = ([0x55, 0x66, 0x77], [0xFF, 0xFF], [0]);
+        let config = FirmwareUpdaterConfig {
+            dfu: MemFlash::<3, 2>::new(&mut dfu, &supply),
+            state: MemFlash::<1, 1>::new(&mut state, &supply),
+        };
+        let answer = BlockingFirmwareUpdater::new(config, &mut word).write_firmware(0, &[1, 2]);
+        format!("{answer:?}, dfu {}", Hex(&dfu))
+    });
+    let odd = Geometry { ea: 2, ed: 2, ..ONES };
+    let state = [0xF0, 0xFF, 0xFF, 0xFF, 0xFF, 0xFF, 0xFF];
+    let mut seven = bench(&[1; 2], &[2; 4], &state);
+    println!("The state area isn't asked to be whole pages, as the comment on new has it");
+    ask(
+        "pages of 2, a state area of 7",
+        &Sizes::<2, 1, 2, 1, 1, 1> {},
+        &call(Kind::PrepareBoot, odd),
+        &mut seven,
+    );
 }
 
 fn labels() {
