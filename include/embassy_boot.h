@@ -8,8 +8,8 @@
  * input; that this header names its parameters in the library's order is tested by tests/c.
  *
  * Flash is memory of the caller's. There are three areas: active (the image that is run), DFU (the image to come, and a page more)
- * and state (what is to be done, and how far it is). An erase sets a unit's bytes to FF. A write leaves each byte as old AND new,
- * so bits only fall. Each erased unit is one operation, and so is each write. Reading is free.
+ * and state (what is to be done, and how far it is). An erase sets a unit's bytes to FF. A write can only clear bits: each byte
+ * becomes old AND new. Each erased unit is one operation, and so is each write. Reading costs nothing.
  *
  * Sizes, in bytes (`struct eb_geometry` below holds all seven):
  *   ea, wa   erase and write size of active            ACTIVE::ERASE_SIZE, ACTIVE::WRITE_SIZE in the crate
