@@ -1,5 +1,6 @@
-// The C boundary: every call of the library under a plain name, over pointers, lengths and numbers. Nothing is decided here;
-// each function makes the library's record of its sizes, calls, and packs the answer into one number, as `packed` says.
+// The C boundary: every call of the library under a plain name, over pointers, lengths and numbers. Nothing is decided here: each
+// function hands its arguments on to the call over numbers, in one of the crates boundary_.., and promises the same.
+// The functions stand here because an archive has those of its own crate alone.
 // None asks anything of its caller beyond slices that are there: what does not fit is refused by the call.
 ghost use mathlib.Core.Path.{_≡_};
 ghost use mathlib.Core.List.{[]};
@@ -10,17 +11,8 @@ ghost use Rattle.rules.specs.Calls.{report};
 ghost use Rattle.rules.specs.Boot.{prepareBoot, getState};
 ghost use Rattle.rules.specs.FirmwareState.{mark};
 ghost use Rattle.rules.specs.FirmwareUpdater.{updaterGetState, updaterMarkUpdated, updaterMarkDfu, updaterMarkBooted, prepareUpdate};
-ghost use Rattle.firmware_updater.specs.Updated.{lastOf};
-ghost use Rattle.packed.specs.Packed.{stateNumber, packed, sectorOf};
-ghost use Rattle.embassy_boot.specs.Told.{stateSizes, geometry, sizes, Told, ToldRead, ToldWrite};
-use boot_loader::BootLoader;
-use firmware_state::BlockingFirmwareState;
-use firmware_updater::BlockingFirmwareUpdater;
-use geometry::Geometry;
-use geometry::Sizes;
-use geometry::StateSizes;
-use packed::NO_SECTOR;
-use state::State;
+ghost use Rattle.packed.specs.Packed.{stateNumber, packed};
+ghost use Rattle.packed.specs.Told.{stateSizes, geometry, sizes, Told, ToldRead, ToldWrite};
 
 // ---- boot
 
@@ -43,15 +35,7 @@ pub extern "C" fn eb_prepare_boot(
         (flash (now (active .entry)) (now (dfu .entry)) (now (state .entry)))
         (flash (now (active .exit)) (now (dfu .exit)) (now (state .exit))) r ⌝ }
 {
-    let g = Geometry {
-        ea,
-        wa,
-        ed,
-        wd,
-        state: StateSizes { es, ws },
-        b,
-    };
-    packed::pack(BootLoader::new(g).prepare_boot(active, dfu, state, budget))
+    boundary_boot::prepare_boot(active, dfu, state, ea, wa, ed, wd, es, ws, b, budget)
 }
 
 // The boot loader's reading of the state area. The images' sizes play no part in it.
@@ -59,15 +43,7 @@ pub extern "C" fn eb_prepare_boot(
 pub extern "C" fn eb_read_state(state: &[u8], es: u32, ws: u32) -> u64
     ensures { λ r. ⌜ r ≡ packed (report (getState (stateSizes es ws) (now (state .entry))) 0) ⌝ }
 {
-    let g = Geometry {
-        ea: 0,
-        wa: 0,
-        ed: 0,
-        wd: 0,
-        state: StateSizes { es, ws },
-        b: 0,
-    };
-    packed::pack(BootLoader::new(g).read_state(state))
+    boundary_boot::read_state(state, es, ws)
 }
 
 // ---- the firmware state
@@ -76,7 +52,7 @@ pub extern "C" fn eb_read_state(state: &[u8], es: u32, ws: u32) -> u64
 pub extern "C" fn eb_state_get_state(state: &[u8], es: u32, ws: u32) -> u64
     ensures { λ r. ⌜ r ≡ packed (report (getState (stateSizes es ws) (now (state .entry))) 0) ⌝ }
 {
-    packed::pack(BlockingFirmwareState::new(StateSizes { es, ws }).get_state(state))
+    boundary_state::get_state(state, es, ws)
 }
 
 // The next boot swaps the images.
@@ -84,7 +60,7 @@ pub extern "C" fn eb_state_get_state(state: &[u8], es: u32, ws: u32) -> u64
 pub extern "C" fn eb_state_mark_updated(state: &mut [u8], es: u32, ws: u32, budget: u32) -> u64
     ensures { λ r. ⌜ Told (mark State.Swap (stateSizes es ws) (now (state .entry))) budget (flash [] [] (now (state .entry))) (flash [] [] (now (state .exit))) r ⌝ }
 {
-    packed::pack(BlockingFirmwareState::new(StateSizes { es, ws }).mark_updated(state, budget))
+    boundary_state::mark_updated(state, es, ws, budget)
 }
 
 // The next boot starts the USB update.
@@ -92,7 +68,7 @@ pub extern "C" fn eb_state_mark_updated(state: &mut [u8], es: u32, ws: u32, budg
 pub extern "C" fn eb_state_mark_dfu(state: &mut [u8], es: u32, ws: u32, budget: u32) -> u64
     ensures { λ r. ⌜ Told (mark State.DfuDetach (stateSizes es ws) (now (state .entry))) budget (flash [] [] (now (state .entry))) (flash [] [] (now (state .exit))) r ⌝ }
 {
-    packed::pack(BlockingFirmwareState::new(StateSizes { es, ws }).mark_dfu(state, budget))
+    boundary_state::mark_dfu(state, es, ws, budget)
 }
 
 // The new firmware is confirmed: the next boot does not undo the swap.
@@ -100,23 +76,10 @@ pub extern "C" fn eb_state_mark_dfu(state: &mut [u8], es: u32, ws: u32, budget: 
 pub extern "C" fn eb_state_mark_booted(state: &mut [u8], es: u32, ws: u32, budget: u32) -> u64
     ensures { λ r. ⌜ Told (mark State.Boot (stateSizes es ws) (now (state .entry))) budget (flash [] [] (now (state .entry))) (flash [] [] (now (state .exit))) r ⌝ }
 {
-    packed::pack(BlockingFirmwareState::new(StateSizes { es, ws }).mark_booted(state, budget))
+    boundary_state::mark_booted(state, es, ws, budget)
 }
 
 // ---- the firmware updater
-
-// An updater with the memory that the caller kept.
-fn updater(ed: u32, wd: u32, es: u32, ws: u32, last: u32) -> BlockingFirmwareUpdater
-    ensures { λ r. ⌜ (r .sizes ≡ sizes ed wd es ws) × (lastOf r ≡ sectorOf last) ⌝ }
-{
-    let memory = packed::sector(last);
-    let z = StateSizes { es, ws };
-    let sizes = Sizes { ed, wd, state: z };
-    BlockingFirmwareUpdater {
-        sizes,
-        last_erased_dfu_sector_index: memory,
-    }
-}
 
 #[no_mangle]
 pub extern "C" fn eb_updater_get_state(
@@ -129,7 +92,7 @@ pub extern "C" fn eb_updater_get_state(
 ) -> u64
     ensures { λ r. ⌜ r ≡ packed (report (updaterGetState (sizes ed wd es ws) (flash [] (now (dfu .entry)) (now (state .entry)))) 0) ⌝ }
 {
-    packed::pack(updater(ed, wd, es, ws, NO_SECTOR).get_state(dfu, state))
+    boundary_marks::get_state(dfu, state, ed, wd, es, ws)
 }
 
 // The next boot swaps the images.
@@ -146,7 +109,7 @@ pub extern "C" fn eb_updater_mark_updated(
     ensures { λ r. ⌜ Told (updaterMarkUpdated (sizes ed wd es ws) (flash [] (now (dfu .entry)) (now (state .entry)))) budget
         (flash [] (now (dfu .entry)) (now (state .entry))) (flash [] (now (dfu .entry)) (now (state .exit))) r ⌝ }
 {
-    packed::pack(updater(ed, wd, es, ws, NO_SECTOR).mark_updated(dfu, state, budget))
+    boundary_marks::mark_updated(dfu, state, ed, wd, es, ws, budget)
 }
 
 // The next boot starts the USB update. Not while a swap is pending.
@@ -163,7 +126,7 @@ pub extern "C" fn eb_updater_mark_dfu(
     ensures { λ r. ⌜ Told (updaterMarkDfu (sizes ed wd es ws) (flash [] (now (dfu .entry)) (now (state .entry)))) budget
         (flash [] (now (dfu .entry)) (now (state .entry))) (flash [] (now (dfu .entry)) (now (state .exit))) r ⌝ }
 {
-    packed::pack(updater(ed, wd, es, ws, NO_SECTOR).mark_dfu(dfu, state, budget))
+    boundary_marks::mark_dfu(dfu, state, ed, wd, es, ws, budget)
 }
 
 // The new firmware is confirmed.
@@ -180,7 +143,7 @@ pub extern "C" fn eb_updater_mark_booted(
     ensures { λ r. ⌜ Told (updaterMarkBooted (sizes ed wd es ws) (flash [] (now (dfu .entry)) (now (state .entry)))) budget
         (flash [] (now (dfu .entry)) (now (state .entry))) (flash [] (now (dfu .entry)) (now (state .exit))) r ⌝ }
 {
-    packed::pack(updater(ed, wd, es, ws, NO_SECTOR).mark_booted(dfu, state, budget))
+    boundary_marks::mark_booted(dfu, state, ed, wd, es, ws, budget)
 }
 
 // Fills `out` with the bytes of DFU from an offset on.
@@ -197,7 +160,7 @@ pub extern "C" fn eb_updater_read_dfu(
 ) -> u64
     ensures { λ r. ⌜ ToldRead (sizes ed wd es ws) offset (now (out .entry)) (now (out .exit)) (flash [] (now (dfu .entry)) (now (state .entry))) r ⌝ }
 {
-    packed::pack(updater(ed, wd, es, ws, NO_SECTOR).read_dfu(dfu, state, offset, out))
+    boundary_updater::read_dfu(dfu, state, ed, wd, es, ws, offset, out)
 }
 
 // Writes data at an offset of DFU, sector by sector. Not while a swap is pending. The memory is the caller's, in `last`.
@@ -217,13 +180,7 @@ pub extern "C" fn eb_updater_write_firmware(
     ensures { λ r. ⌜ ToldWrite (sizes ed wd es ws) budget offset (now («data» .entry)) (now (last .entry)) (now (last .exit))
         (flash [] (now (dfu .entry)) (now (state .entry))) (flash [] (now (dfu .exit)) (now (state .entry))) r ⌝ }
 {
-    let before = updater(ed, wd, es, ws, *last);
-    let wrote = before.write_firmware(dfu, state, offset as usize, data, budget);
-    let after = wrote.updater;
-    let memory = after.last_erased_dfu_sector_index;
-    *last = packed::last_number(memory);
-    let answer = wrote.answer;
-    packed::pack(answer)
+    boundary_updater::write_firmware(dfu, state, ed, wd, es, ws, offset, data, last, budget)
 }
 
 // Erases all of DFU. Not while a swap is pending. The memory isn't touched, so it isn't asked for.
@@ -240,9 +197,7 @@ pub extern "C" fn eb_updater_prepare_update(
     ensures { λ r. ⌜ Told (prepareUpdate (sizes ed wd es ws) (flash [] (now (dfu .entry)) (now (state .entry)))) budget
         (flash [] (now (dfu .entry)) (now (state .entry))) (flash [] (now (dfu .exit)) (now (state .entry))) r ⌝ }
 {
-    let wrote = updater(ed, wd, es, ws, NO_SECTOR).prepare_update(dfu, state, budget);
-    let answer = wrote.answer;
-    packed::pack(answer)
+    boundary_updater::prepare_update(dfu, state, ed, wd, es, ws, budget)
 }
 
 // ---- states
@@ -252,5 +207,5 @@ pub extern "C" fn eb_updater_prepare_update(
 pub extern "C" fn eb_state_from(bytes: &[u8]) -> u32
     ensures { λ r. ⌜ r ≡ stateNumber (stateOf (now (bytes .entry))) ⌝ }
 {
-    packed::state_number(State::from(bytes))
+    boundary_state::state_from(bytes)
 }

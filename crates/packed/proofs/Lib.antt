@@ -1,3 +1,4 @@
 pub mod Low
 pub mod Apart
 pub mod Memory
+pub mod Packs
