@@ -3,12 +3,12 @@
 ghost use mathlib.Core.Path.{_≡_};
 ghost use mathlib.Core.List.{[]};
 ghost use Rattle.state.specs.declared.State.{State};
-ghost use Rattle.state.specs.Magic.{stateOf};
+ghost use Rattle.state.specs.Magic.{stateNumber, stateOf};
 ghost use Rattle.mem_flash.specs.Run.{flash};
 ghost use Rattle.rules.specs.Calls.{report};
 ghost use Rattle.rules.specs.Boot.{getState};
 ghost use Rattle.rules.specs.FirmwareState.{mark};
-ghost use Rattle.packed.specs.Packed.{stateNumber, packed};
+ghost use Rattle.packed.specs.Packed.{packed};
 ghost use Rattle.packed.specs.Told.{stateSizes, Told};
 use firmware_state::BlockingFirmwareState;
 use geometry::StateSizes;

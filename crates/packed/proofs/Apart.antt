@@ -7,10 +7,11 @@ use lib.Dec.{eqb, lit≤}
 use Rattle.state.specs.declared.State.{State}
 use Rattle.state.specs.declared.State.the-variants.{Boot, Swap, Revert, DfuDetach}
 use Rattle.state.specs.Choice.{pick}
+use Rattle.state.specs.Magic.{stateNumber}
 use Rattle.rules.specs.declared.Answer.{Answer}
 use Rattle.rules.specs.Calls.{Report, reported}
 use Rattle.rules.proofs.Unique.{answer-unique}
-use Rattle.packed.specs.Packed.{stateNumber, stateByte, joined, packed}
+use Rattle.packed.specs.Packed.{stateByte, joined, packed}
 
 -- the three numbers can be read back
 apart : (a b c x y z : ℕ) → b ≤ 255 → c < 2 ^ 32 → y ≤ 255 → z < 2 ^ 32 → joined a b c ≡ joined x y z → (a ≡ x) × (b ≡ y) × (c ≡ z)

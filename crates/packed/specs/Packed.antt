@@ -3,18 +3,11 @@ use mathlib.Core.Option.{Option, none, some}
 use Prim.Native.Nat.{ℕ, _+_, _*_, _^_}
 use lib.Dec.{eqb}
 use Rattle.state.specs.declared.State.{State}
-use Rattle.state.specs.declared.State.the-variants.{Boot, Swap, Revert, DfuDetach}
 use Rattle.state.specs.Choice.{pick}
+use Rattle.state.specs.Magic.{stateNumber}
 use Rattle.rules.specs.declared.Sector.{Sector}
 use Rattle.rules.specs.declared.Sector.the-variants.{None, At}
 use Rattle.rules.specs.Calls.{Report}
-
--- a state by its number in document 01
-unfoldable pub stateNumber : State → ℕ
-stateNumber Boot = 0
-stateNumber Swap = 1
-stateNumber Revert = 2
-stateNumber DfuDetach = 3
 
 -- the state that a report carries, and 255 where it carries none
 unfoldable pub stateByte : Option State → ℕ

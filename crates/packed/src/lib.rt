@@ -3,8 +3,9 @@
 // is lost.
 ghost use mathlib.Core.Path.{_≡_};
 ghost use Prim.Native.Nat.{_≤_, _<_, _^_};
+ghost use Rattle.state.specs.Magic.{stateNumber};
 ghost use Rattle.rules.specs.Calls.{reported};
-ghost use Rattle.packed.specs.Packed.{stateNumber, joined, packed, sectorOf, lastNumber};
+ghost use Rattle.packed.specs.Packed.{joined, packed, sectorOf, lastNumber};
 use rules::Answer;
 use rules::Sector;
 use state::State;

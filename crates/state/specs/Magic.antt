@@ -1,4 +1,4 @@
--- The bytes of a state word: document 01, "State area". Assumes nothing.
+-- A state: the bytes of its word (document 01, "State area") and its number ("When a call says no"). Assumes nothing.
 use mathlib.Core.Bool.{Bool, true, false}
 use mathlib.Core.List.{List, [], _∷_}
 use Prim.Native.Nat.{ℕ}
@@ -21,6 +21,13 @@ magic Boot = 0xD0
 magic Swap = 0xF0
 magic Revert = 0xC0
 magic DfuDetach = 0xE0
+
+-- and a state's number, where an answer carries one
+unfoldable pub stateNumber : State → ℕ
+stateNumber Boot = 0
+stateNumber Swap = 1
+stateNumber Revert = 2
+stateNumber DfuDetach = 3
 
 -- each byte of a word is b
 unfoldable pub throughout : ℕ → List ℕ → Bool

@@ -1,7 +1,7 @@
 -- `state_from` meets its contract: the number of the state that the bytes read as.
 -- Assumes nothing.
 use mathlib.Core.Path.{ap, _∙_}
-use Rattle.packed.specs.Packed.{stateNumber}
+use Rattle.state.specs.Magic.{stateNumber}
 use borrow.Author.Needs.{needs}
 use Rattle.boundary_state.proofs.state_from.Statement.{statement}
 use Rattle.boundary_state.proofs.state_from.Tie as tie

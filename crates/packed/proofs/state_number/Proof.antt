@@ -1,6 +1,6 @@
 -- `state_number` meets its contract: each arm gives the definition's number for its state.
 -- Assumes nothing.
-use Rattle.packed.specs.Packed.{stateNumber}
+use Rattle.state.specs.Magic.{stateNumber}
 use borrow.Author.Needs.{needs}
 use Rattle.packed.proofs.state_number.Statement.{statement}
 use Rattle.packed.proofs.state_number.Tie as tie
