@@ -9,8 +9,6 @@ use Rattle.state.proofs.State.from.Kinds as from-kinds
 use Rattle.state.proofs.State.from.Reads as from
 use Rattle.state.proofs.word.all_are.Kinds as all-are-kinds
 use Rattle.state.proofs.word.all_are.Reads as all-are
-use Rattle.state.proofs.word.any_is.Kinds as any-is-kinds
-use Rattle.state.proofs.word.any_is.Reads as any-is
 
 pub magic-unique : OneResult magic-kinds.ps magic-kinds.r magic.Post
 magic-unique κs a x y v w p q = (p ∙ sym q, refl)
@@ -23,6 +21,3 @@ from-unique κs a x y v w p q = (p ∙ sym q, refl)
 
 pub all-are-unique : OneResult all-are-kinds.ps all-are-kinds.r all-are.Post
 all-are-unique κs a x y v w p q = (p ∙ sym q, refl)
-
-pub any-is-unique : OneResult any-is-kinds.ps any-is-kinds.r any-is.Post
-any-is-unique κs a x y v w p q = (p ∙ sym q, refl)

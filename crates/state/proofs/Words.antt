@@ -1,4 +1,4 @@
--- Laws of the two questions asked of a word, for the loops that ask them: `all_are` and `any_is` cite them, a turn and an end each.
+-- Laws of the two questions asked of a word, for the loops that ask them, a turn and an end each: `all_are` here, and byte_search.
 -- Assumes nothing.
 use mathlib.Core.Path.{_≡_, sym}
 use mathlib.Core.Bool.{true, false}
@@ -19,14 +19,6 @@ module _ (i v : ℕ) (xs : List ℕ) (h : i < length xs) where
   pub all-not : (getD xs i 0 ≡ v → ⊥) → throughout v (drop i xs) ≡ false
   unfolding throughout pick
   all-not e = rw (drop-cons xs i 0 h, ne-eqb _ _ e)
-
-  pub any-turn : (getD xs i 0 ≡ v → ⊥) → holds v (drop (i + 1) xs) ≡ holds v (drop i xs)
-  unfolding holds pick
-  any-turn e = sym (rw (drop-cons xs i 0 h, ne-eqb _ _ e) (simp add-one))
-
-  pub any-here : getD xs i 0 ≡ v → holds v (drop i xs) ≡ true
-  unfolding holds pick
-  any-here e = rw (drop-cons xs i 0 h, eq-eqb _ _ e)
 
 pub all-end : (i v : ℕ) (xs : List ℕ) → length xs ≤ i → throughout v (drop i xs) ≡ true
 unfolding throughout

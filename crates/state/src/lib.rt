@@ -56,18 +56,16 @@ impl State {
         }
     }
 
-    // The state of a word. No bytes at all read Swap, as in the Rust.
+    // The state of a word: its bytes have to be one magic throughout. No bytes at all read Swap, as in the Rust.
     pub fn from(magic: &[u8]) -> State
         ensures { λ r. ⌜ r ≡ stateOf (now (magic .entry)) ⌝ }
     {
-        if word::all_are(magic, State::SWAP_MAGIC) {
+        if magic.len() == 0 {
             return State::Swap;
         }
-        if word::all_are(magic, State::REVERT_MAGIC) {
-            return State::Revert;
-        }
-        if word::all_are(magic, State::DFU_DETACH_MAGIC) {
-            return State::DfuDetach;
+        let byte = magic[0];
+        if word::all_are(magic, byte) {
+            return State::from_magic(byte);
         }
         State::Boot
     }

@@ -1,6 +1,6 @@
-// The two questions that the Rust asks of a word by iterators.
+// The question that the Rust asks of a word by an iterator. Its other one, whether some byte is a value, is asked by blocks (byte_search).
 ghost use mathlib.Core.Path.{_≡_};
-ghost use Rattle.state.specs.Magic.{throughout, holds};
+ghost use Rattle.state.specs.Magic.{throughout};
 
 // Whether each byte of a word is `value`.
 pub fn all_are(word: &[u8], value: u8) -> bool
@@ -14,18 +14,4 @@ pub fn all_are(word: &[u8], value: u8) -> bool
         i += 1;
     }
     true
-}
-
-// Whether some byte of a word is `value`.
-pub fn any_is(word: &[u8], value: u8) -> bool
-    ensures { λ r. ⌜ r ≡ holds value (now (word .entry)) ⌝ }
-{
-    let mut i = 0;
-    while i < word.len() {
-        if word[i] == value {
-            return true;
-        }
-        i += 1;
-    }
-    false
 }

@@ -12,33 +12,33 @@ use geometry::Sizes;
 use geometry::StateSizes;
 
 // The first test, or the list of tests that follow it.
-pub fn or(first: bool, rest: bool) -> bool
+pub(crate) fn or(first: bool, rest: bool) -> bool
     ensures { λ r. ⌜ ((x : Bool) (bs : List Bool) → first ≡ x → rest ≡ any bs → r ≡ any (x ∷ bs)) ⌝ }
 {
     if first { true } else { rest }
 }
 
 // The last of a list of tests.
-pub fn last(test: bool) -> bool
+pub(crate) fn last(test: bool) -> bool
     ensures { λ r. ⌜ ((x : Bool) → test ≡ x → r ≡ any (x ∷ [])) ⌝ }
 {
     test
 }
 
-pub fn bad_number(n: u32) -> bool
+pub(crate) fn bad_number(n: u32) -> bool
     ensures { λ r. ⌜ r ≡ badNumber n ⌝ }
 {
     or(n == 0, last(65536 < n))
 }
 
-pub fn too_long(n: usize) -> bool
+pub(crate) fn too_long(n: usize) -> bool
     ensures { λ r. ⌜ r ≡ tooLong n ⌝ }
 {
     1048576 < n
 }
 
 // Whether n is no multiple of m.
-pub fn uneven(n: usize, m: usize) -> bool
+pub(crate) fn uneven(n: usize, m: usize) -> bool
     requires { ⌜ 0 < m ⌝ }
     ensures { λ r. ⌜ r ≡ uneven n m ⌝ }
 {
@@ -53,7 +53,7 @@ fn bad_sizes(z: StateSizes, rest: bool) -> bool
 }
 
 // Row 1 of prepare_boot.
-pub fn boot_limits(g: Geometry, la: usize, ld: usize, ls: usize) -> bool
+pub(crate) fn boot_limits(g: Geometry, la: usize, ld: usize, ls: usize) -> bool
     ensures { λ r. ⌜ r ≡ outside (bootNumbers g) (la ∷ ld ∷ ls ∷ []) ⌝ }
 {
     let lengths = or(too_long(la), or(too_long(ld), last(too_long(ls))));
@@ -63,14 +63,14 @@ pub fn boot_limits(g: Geometry, la: usize, ld: usize, ls: usize) -> bool
 }
 
 // Row 1 of the calls that read the state area alone.
-pub fn state_limits(z: StateSizes, ls: usize) -> bool
+pub(crate) fn state_limits(z: StateSizes, ls: usize) -> bool
     ensures { λ r. ⌜ r ≡ outside (stateNumbers z) (ls ∷ []) ⌝ }
 {
     bad_sizes(z, last(too_long(ls)))
 }
 
 // Row 1 of the updater.
-pub fn updater_limits(z: Sizes, ld: usize, ls: usize) -> bool
+pub(crate) fn updater_limits(z: Sizes, ld: usize, ls: usize) -> bool
     ensures { λ r. ⌜ r ≡ outside (updaterNumbers z) (ld ∷ ls ∷ []) ⌝ }
 {
     let lengths = or(too_long(ld), last(too_long(ls)));
@@ -81,7 +81,7 @@ pub fn updater_limits(z: Sizes, ld: usize, ls: usize) -> bool
 }
 
 // Row 2 of prepare_boot.
-pub fn uneven_page(g: Geometry) -> bool
+pub(crate) fn uneven_page(g: Geometry) -> bool
     requires { ⌜ Numbers g ⌝ }
     ensures { λ r. ⌜ r ≡ unevenPage g ⌝ }
 {
@@ -99,7 +99,7 @@ pub fn uneven_page(g: Geometry) -> bool
 }
 
 // Row 3 of prepare_boot.
-pub fn uneven_areas(g: Geometry, la: usize, ld: usize) -> bool
+pub(crate) fn uneven_areas(g: Geometry, la: usize, ld: usize) -> bool
     requires { ⌜ Numbers g × (la ≤ mostLength) ⌝ }
     ensures { λ r. ⌜ r ≡ unevenAreas g la ld ⌝ }
 {
@@ -108,7 +108,7 @@ pub fn uneven_areas(g: Geometry, la: usize, ld: usize) -> bool
 }
 
 // Row 4: the state area has to hold `least` words.
-pub fn bad_state(least: usize, z: StateSizes, ls: usize) -> bool
+pub(crate) fn bad_state(least: usize, z: StateSizes, ls: usize) -> bool
     requires { ⌜ (0 < z .es) × (0 < z .ws) ⌝ }
     ensures { λ r. ⌜ r ≡ badState least z ls ⌝ }
 {
@@ -118,7 +118,7 @@ pub fn bad_state(least: usize, z: StateSizes, ls: usize) -> bool
 }
 
 // The words that a boot with n pages wants.
-pub fn boot_words(n: usize) -> usize
+pub(crate) fn boot_words(n: usize) -> usize
     requires { ⌜ n ≤ mostLength ⌝ }
     ensures { λ r. ⌜ r ≡ bootWords n ⌝ }
 {
@@ -126,7 +126,7 @@ pub fn boot_words(n: usize) -> usize
 }
 
 // Row 4 of prepare_boot.
-pub fn bad_boot_state(g: Geometry, la: usize, ls: usize) -> bool
+pub(crate) fn bad_boot_state(g: Geometry, la: usize, ls: usize) -> bool
     requires { ⌜ Numbers g × (la ≤ mostLength) ⌝ }
     ensures { λ r. ⌜ r ≡ badState (bootWords (pages g la)) (g .state) ls ⌝ }
 {
