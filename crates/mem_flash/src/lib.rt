@@ -17,21 +17,23 @@ pub enum Flow {
     Cut,
 }
 
-fn fill(area: &mut [u8], from: usize, to: usize)
-    requires { ⌜ to ≤ length (now area) ⌝ }
-    ensures { λ _. ⌜ now (area .exit) ≡ erasedAt from (to - from) (now (area .entry)) ⌝ }
+fn fill(area: &mut [u8], from: Offset, to: Offset)
+    requires { ⌜ to .0 ≤ length (now area) ⌝ }
+    ensures { λ _. ⌜ now (area .exit) ≡ erasedAt (from .0) (to .0 - from .0) (now (area .entry)) ⌝ }
 {
-    let mut i = from;
-    while i < to {
+    let end = to.0;
+    let mut i = from.0;
+    while i < end {
         area[i] = State::ERASE_VALUE;
         i += 1;
     }
 }
 
-fn program(area: &mut [u8], at: usize, bytes: &[u8], len: usize)
-    requires { ⌜ (at + len ≤ length (now area)) × (len ≤ length (now bytes)) ⌝ }
-    ensures { λ _. ⌜ now (area .exit) ≡ writtenAt at (take len (now (bytes .entry))) (now (area .entry)) ⌝ }
+fn program(area: &mut [u8], offset: Offset, bytes: &[u8], len: usize)
+    requires { ⌜ (offset .0 + len ≤ length (now area)) × (len ≤ length (now bytes)) ⌝ }
+    ensures { λ _. ⌜ now (area .exit) ≡ writtenAt (offset .0) (take len (now (bytes .entry))) (now (area .entry)) ⌝ }
 {
+    let at = offset.0;
     let mut i = 0;
     while i < len {
         area[at + i] = area[at + i] & bytes[i];
@@ -39,10 +41,11 @@ fn program(area: &mut [u8], at: usize, bytes: &[u8], len: usize)
     }
 }
 
-fn program_word(area: &mut [u8], at: usize, value: u8, len: usize)
-    requires { ⌜ at + len ≤ length (now area) ⌝ }
-    ensures { λ _. ⌜ now (area .exit) ≡ writtenAt at (replicate len value) (now (area .entry)) ⌝ }
+fn program_word(area: &mut [u8], offset: Offset, value: u8, len: usize)
+    requires { ⌜ offset .0 + len ≤ length (now area) ⌝ }
+    ensures { λ _. ⌜ now (area .exit) ≡ writtenAt (offset .0) (replicate len value) (now (area .entry)) ⌝ }
 {
+    let at = offset.0;
     let mut i = 0;
     while i < len {
         area[at + i] = area[at + i] & value;
@@ -51,29 +54,29 @@ fn program_word(area: &mut [u8], at: usize, value: u8, len: usize)
 }
 
 // Erases one unit: one operation.
-fn erase_unit(area: &mut [u8], at: usize, end: usize, left: Budget) -> Flow
-    ensures { λ r. ⌜ InArea (left .0) (unitOp at (end - at)) (now (area .entry)) (now (area .exit)) r ⌝ }
+fn erase_unit(area: &mut [u8], from: Offset, to: Offset, left: Budget) -> Flow
+    ensures { λ r. ⌜ InArea (left .0) (unitOp (from .0) (to .0 - from .0)) (now (area .entry)) (now (area .exit)) r ⌝ }
 {
     let k = left.0;
     if k == 0 {
         return Flow::Cut;
     }
-    let stop = geometry::least(end, area.len());
-    fill(area, at, stop);
+    let stop = geometry::least(to.0, area.len());
+    fill(area, from, Offset(stop));
     Flow::On(Budget(k - 1))
 }
 
 // Erases so many units from an offset on, until a cut.
-fn erase_units(area: &mut [u8], from: usize, count: usize, unit: usize, left: Budget) -> Flow
-    requires { ⌜ from + count * unit < 2 ^ 64 ⌝ }
-    ensures { λ r. ⌜ InArea (left .0) (λ a. unitOps count unit a from) (now (area .entry)) (now (area .exit)) r ⌝ }
+fn erase_units(area: &mut [u8], from: Offset, count: usize, unit: usize, left: Budget) -> Flow
+    requires { ⌜ from .0 + count * unit < 2 ^ 64 ⌝ }
+    ensures { λ r. ⌜ InArea (left .0) (λ a. unitOps count unit a (from .0)) (now (area .entry)) (now (area .exit)) r ⌝ }
 {
-    let mut at = from;
+    let mut at = from.0;
     let mut still = left;
     let mut i = 0;
     while i < count {
         let end = at + unit;
-        let Flow::On(rest) = erase_unit(area, at, end, still) else {
+        let Flow::On(rest) = erase_unit(area, Offset(at), Offset(end), still) else {
             return Flow::Cut;
         };
         still = rest;
@@ -93,7 +96,7 @@ pub fn erase(area: &mut [u8], from: Offset, to: Offset, unit: usize, left: Budge
     if to.0 < from.0 {
         return Flow::On(left);
     }
-    erase_units(area, from.0, (to.0 - from.0) / unit, unit, left)
+    erase_units(area, from, (to.0 - from.0) / unit, unit, left)
 }
 
 // Writes bytes at an offset: one operation.
@@ -106,7 +109,7 @@ pub fn write(area: &mut [u8], offset: Offset, bytes: &[u8], left: Budget) -> Flo
     }
     let at = geometry::least(offset.0, area.len());
     let len = geometry::least(bytes.len(), area.len() - at);
-    program(area, at, bytes, len);
+    program(area, Offset(at), bytes, len);
     Flow::On(Budget(k - 1))
 }
 
@@ -120,6 +123,6 @@ pub fn write_word(area: &mut [u8], offset: Offset, value: u8, len: usize, left: 
     }
     let at = geometry::least(offset.0, area.len());
     let room = geometry::least(len, area.len() - at);
-    program_word(area, at, value, room);
+    program_word(area, Offset(at), value, room);
     Flow::On(Budget(k - 1))
 }

@@ -1,8 +1,8 @@
 -- How the operations on the state area follow from those of the flash on any area. Assumes nothing.
-use mathlib.Core.Path.{_≡_}
+use mathlib.Core.Path.{_≡_, _∙_}
 use mathlib.Core.List.{List}
-use Prim.Native.Nat.{ℕ, _-_}
-use native.Mathlib.Nat.{sub-zero}
+use Prim.Native.Nat.{ℕ, _-_, _*_}
+use native.Mathlib.Nat.{sub-zero, zero-mul, one-mul}
 use lib.ListN.{length, replicate}
 use Rattle.state.specs.Magic.{marked}
 use Rattle.geometry.specs.declared.StateSizes.{StateSizes}
@@ -21,10 +21,12 @@ in-state : (k : ℕ) (os : Area → List Op) (st st′ : List ℕ) (r : Flow) �
 unfolding placed change
 in-state k os st st′ r w a d = w state (flash a d st)
 
-pub invalidated : (k : ℕ) (z : StateSizes) (st st′ : List ℕ) (r : Flow) → InArea k (writeOps (z .ws) (replicate (z .ws) 0x00)) st st′ r
-    → Invalidated k z st st′ r
+pub invalidated : (k : ℕ) (z : StateSizes) (st st′ : List ℕ) (r : Flow) {at : ℕ} → at ≡ 1 * z .ws
+    → InArea k (writeOps at (replicate (z .ws) 0x00)) st st′ r → Invalidated k z st st′ r
 unfolding invalidateOp marked
-invalidated k z st st′ r w = in-state k _ st st′ r w
+invalidated k z st st′ r e w =
+    let o = e ∙ one-mul (z .ws) in
+    in-state k _ st st′ r (rw o at w)
 
 module _ (k : ℕ) (z : StateSizes) (m : ℕ) (st st₁ : List ℕ) (r : Flow) (w : InArea k (λ a. eraseOps (z .es) a 0 (length st - 0)) st st₁ r) where
   erases : InArea k (λ a. eraseOps (z .es) a 0 (length st)) st st₁ r
@@ -34,7 +36,9 @@ module _ (k : ℕ) (z : StateSizes) (m : ℕ) (st st₁ : List ℕ) (r : Flow) (
   unfolding renewOps magicOp
   renew-cut o = in-state k _ st st₁ Cut (area-cut k _ st st₁ r erases (writeOps 0 (replicate (z .ws) m)) o)
 
-  pub renew-on : (l : Budget) (st₂ : List ℕ) (q : Flow) → r ≡ On l → InArea (l .0) (writeOps 0 (replicate (z .ws) m)) st₁ st₂ q
+  pub renew-on : (l : Budget) (st₂ : List ℕ) (q : Flow) {at : ℕ} → r ≡ On l → at ≡ 0 * z .ws → InArea (l .0) (writeOps at (replicate (z .ws) m)) st₁ st₂ q
       → Renewed k z m st st₂ q
   unfolding renewOps magicOp
-  renew-on l st₂ q o v = in-state k _ st st₂ q (area-on k _ st st₁ r erases (writeOps 0 (replicate (z .ws) m)) l st₂ q o v)
+  renew-on l st₂ q o e v =
+      let s = e ∙ zero-mul (z .ws) in
+      in-state k _ st st₂ q (area-on k _ st st₁ r erases (writeOps 0 (replicate (z .ws) m)) l st₂ q o (rw s at v))

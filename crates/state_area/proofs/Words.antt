@@ -1,8 +1,7 @@
--- The words 0 and 1 as the code cuts them out of the area. Assumes nothing.
+-- A word as the code cuts it out of the area. Assumes nothing.
 use mathlib.Core.Path.{_≡_, ap, _∙_, sym}
 use mathlib.Core.List.{List}
 use Prim.Native.Nat.{ℕ, _-_, _*_, _≤_, min}
-use native.Mathlib.Nat.{zero-mul}
 use native.Mathlib.Decide.{decLe}
 use native.Mathlib.Omega.{arith}
 use lib.ListN.{length, take, drop, drop-of-length-le, length-take, length-drop}
@@ -28,15 +27,11 @@ drop-least n m xs e = go (decLe n (length xs))
 pub least-length : (n : ℕ) {m : ℕ} (xs : List ℕ) → m ≡ min n (length xs) → m ≡ length (take m xs)
 least-length n {m} xs e = sym (length-take m xs ∙ (let h : min m (length xs) ≡ m = omega arith in h))
 
-pub first-word : (z : StateSizes) {end : ℕ} (st : List ℕ) → end ≡ min (z .ws) (length st) → take end st ≡ word z 0 st
-unfolding word
-first-word z {end} st e = rw zero-mul (take-least (z .ws) end st e)
-
-pub second-word : (z : StateSizes) {start end : ℕ} (st : List ℕ) → start ≡ min (z .ws) (length st)
+-- word i
+pub nth-word : (z : StateSizes) (i : ℕ) {at start end : ℕ} (st : List ℕ) → at ≡ i * z .ws → start ≡ min at (length st)
     → end ≡ min (z .ws) (length (take (length st - start) (drop start st)))
-    → take end (take (length st - start) (drop start st)) ≡ word z 1 st
+    → take end (take (length st - start) (drop start st)) ≡ word z i st
 unfolding word
-second-word z {start} {end} st e d =
-    let o : 1 * z .ws ≡ z .ws = omega arith in
+nth-word z i {at} {start} {end} st o e d =
     let all = take-all (length st - start) (drop start st) (omega (arith, length-drop start st)) in
-    rw (o, ← drop-least (z .ws) start st e) (take-least (z .ws) end _ d ∙ ap (take (z .ws)) all)
+    rw (← o, ← drop-least at start st e) (take-least (z .ws) end _ d ∙ ap (take (z .ws)) all)

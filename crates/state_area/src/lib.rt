@@ -10,41 +10,63 @@ ghost use Rattle.state_area.specs.Area.{Invalidated, Renewed};
 ghost use Rattle.rules.specs.StateArea.{word, readState, valid, marksDone, progress};
 use geometry::Offset;
 use geometry::StateSizes;
+use geometry::Word;
 use mem_flash::Budget;
 use mem_flash::Flow;
 use state::State;
+
+// The words that are no marks: the magic, and the validity of the progress.
+const MAGIC: Word = Word(0);
+
+const VALIDITY: Word = Word(1);
+
+// Where one of them begins.
+fn word_offset(w: Word, z: StateSizes) -> Offset
+    requires { ⌜ w .0 ≤ 1 ⌝ }
+    ensures { λ r. ⌜ r .0 ≡ w .0 * z .ws ⌝ }
+{
+    Offset(w.0 * z.ws as usize)
+}
+
+// Whether each byte of it is `value`.
+fn word_is(state: &[u8], w: Word, z: StateSizes, value: u8) -> bool
+    requires { ⌜ w .0 ≤ 1 ⌝ }
+    ensures { λ r. ⌜ r ≡ throughout value (word z (w .0) (now (state .entry))) ⌝ }
+{
+    let at = word_offset(w, z);
+    let start = geometry::least(at.0, state.len());
+    let rest = &state[start..];
+    let end = geometry::least(z.ws as usize, rest.len());
+    state::word::all_are(&rest[..end], value)
+}
 
 // Whether each byte of word 0 is `value`.
 pub fn magic_is(state: &[u8], z: StateSizes, value: u8) -> bool
     ensures { λ r. ⌜ r ≡ throughout value (word z 0 (now (state .entry))) ⌝ }
 {
-    let ws = z.ws as usize;
-    let end = geometry::least(ws, state.len());
-    state::word::all_are(&state[..end], value)
+    word_is(state, MAGIC, z, value)
 }
 
 // The state that word 0 stands for.
 pub fn read(state: &[u8], z: StateSizes) -> State
     ensures { λ r. ⌜ r ≡ readState z (now (state .entry)) ⌝ }
 {
-    let ws = z.ws as usize;
-    let end = geometry::least(ws, state.len());
-    State::from(&state[..end])
+    let at = word_offset(MAGIC, z);
+    let start = geometry::least(at.0, state.len());
+    let rest = &state[start..];
+    let end = geometry::least(z.ws as usize, rest.len());
+    State::from(&rest[..end])
 }
 
 // Whether the progress counts: each byte of word 1 is as an erase leaves it.
 pub fn is_valid(state: &[u8], z: StateSizes) -> bool
     ensures { λ r. ⌜ r ≡ valid z (now (state .entry)) ⌝ }
 {
-    let ws = z.ws as usize;
-    let start = geometry::least(ws, state.len());
-    let rest = &state[start..];
-    let end = geometry::least(ws, rest.len());
-    state::word::all_are(&rest[..end], State::ERASE_VALUE)
+    word_is(state, VALIDITY, z, State::ERASE_VALUE)
 }
 
 // How many marks are read: three fewer than there are words.
-pub fn most_marks(n: usize, z: StateSizes) -> usize
+fn most_marks(n: usize, z: StateSizes) -> usize
     ensures { λ r. ⌜ r ≡ words (z .ws) n - 3 ⌝ }
 {
     let ws = z.ws as usize;
@@ -100,8 +122,8 @@ pub fn progress(state: &[u8], z: StateSizes) -> usize
 pub fn invalidate(state: &mut [u8], z: StateSizes, left: Budget) -> Flow
     ensures { λ r. ⌜ Invalidated (left .0) z (now (state .entry)) (now (state .exit)) r ⌝ }
 {
-    let ws = z.ws as usize;
-    mem_flash::write_word(state, Offset(ws), State::MARK_VALUE, ws, left)
+    let at = word_offset(VALIDITY, z);
+    mem_flash::write_word(state, at, State::MARK_VALUE, z.ws as usize, left)
 }
 
 // Erases the whole area, magic and progress, and writes a magic.
@@ -112,5 +134,6 @@ pub fn renew(state: &mut [u8], z: StateSizes, magic: u8, left: Budget) -> Flow
     let Flow::On(rest) = mem_flash::erase(state, Offset(0), Offset(n), z.es as usize, left) else {
         return Flow::Cut;
     };
-    mem_flash::write_word(state, Offset(0), magic, z.ws as usize, rest)
+    let at = word_offset(MAGIC, z);
+    mem_flash::write_word(state, at, magic, z.ws as usize, rest)
 }

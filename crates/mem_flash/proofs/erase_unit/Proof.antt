@@ -14,8 +14,8 @@ least-requires c κs = search needs
 fill-requires : tie.Need-fill-requires
 fill-requires c κs = search needs
 
-sub-t12 : tie.Need-sub-t12
-sub-t12 c = search needs
+sub-t13 : tie.Need-sub-t13
+sub-t13 c = search needs
 
 same-length : tie.Need-same-length
 same-length c = search needs
@@ -25,4 +25,4 @@ returns-2 c = on-erase _ _ _ (search needs) _ _ (c .before .before .fill .ensure
 
 pub erase-unit-spec : {M : Type 1} → statement M
 erase-unit-spec =
-    tie.close (tie.spec returns least-requires fill-requires sub-t12 same-length returns-2)
+    tie.close (tie.spec returns least-requires fill-requires sub-t13 same-length returns-2)

@@ -11,11 +11,11 @@ use Rattle.mem_flash.proofs.erase_units.Statement.{statement}
 use Rattle.mem_flash.proofs.erase_units.Tie as tie
 
 abbrev Inv-loop : tie.InvT-loop
-Inv-loop area₀ from count unit at₀ still₀ i₀ area at still i = (i ≤ count) × (at ≡ at₀ + i * unit) × (length area ≡ length area₀)
+Inv-loop area₀ count unit at₀ still₀ i₀ area at still i = (i ≤ count) × (at ≡ at₀ + i * unit) × (length area ≡ length area₀)
     × ((a : Area) (f : Flash) → run (still₀ .0) (unitOps count unit a at₀) (placed a area₀ f) ≡ run (still .0) (unitOps (count - i) unit a at) (placed a area f))
 
 abbrev μ-loop : tie.MeasureT-loop
-μ-loop area₀ from count unit at₀ still₀ i₀ area at still i = count - i
+μ-loop area₀ count unit at₀ still₀ i₀ area at still i = count - i
 
 loop-holds : tie.Need-loop-holds Inv-loop μ-loop
 loop-holds c = (omega arith, omega arith, search needs, λ a f. simp sub-zero)

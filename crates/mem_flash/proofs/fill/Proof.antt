@@ -8,10 +8,10 @@ use Rattle.mem_flash.proofs.fill.Statement.{statement}
 use Rattle.mem_flash.proofs.fill.Tie as tie
 
 abbrev Inv-loop : tie.InvT-loop
-Inv-loop area₀ from to i₀ area i = (length area ≡ length area₀) × (erasedAt i (to - i) area ≡ erasedAt from (to - from) area₀)
+Inv-loop area₀ end i₀ area i = (length area ≡ length area₀) × (erasedAt i (end - i) area ≡ erasedAt i₀ (end - i₀) area₀)
 
 abbrev μ-loop : tie.MeasureT-loop
-μ-loop area₀ from to i₀ area i = to - i
+μ-loop area₀ end i₀ area i = end - i
 
 loop-holds : tie.Need-loop-holds Inv-loop μ-loop
 loop-holds c = search needs

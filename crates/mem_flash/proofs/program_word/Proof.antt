@@ -9,10 +9,10 @@ use Rattle.mem_flash.proofs.program_word.Statement.{statement}
 use Rattle.mem_flash.proofs.program_word.Tie as tie
 
 abbrev Inv-loop : tie.InvT-loop
-Inv-loop area₀ at value len i₀ area i = (i ≤ len) × (length area ≡ length area₀) × (writtenAt (at + i) (replicate (len - i) value) area ≡ writtenAt at (replicate len value) area₀)
+Inv-loop area₀ value len at i₀ area i = (i ≤ len) × (length area ≡ length area₀) × (writtenAt (at + i) (replicate (len - i) value) area ≡ writtenAt at (replicate len value) area₀)
 
 abbrev μ-loop : tie.MeasureT-loop
-μ-loop area₀ at value len i₀ area i = len - i
+μ-loop area₀ value len at i₀ area i = len - i
 
 loop-holds : tie.Need-loop-holds Inv-loop μ-loop
 loop-holds c = (search needs, refl, simp (add-zero, sub-zero))

@@ -20,8 +20,8 @@ least-requires-2 c κs = search needs
 program-word-requires : tie.Need-program-word-requires
 program-word-requires c κs = search needs
 
-sub-t15 : tie.Need-sub-t15
-sub-t15 c = search needs
+sub-t16 : tie.Need-sub-t16
+sub-t16 c = search needs
 
 same-length : tie.Need-same-length
 same-length c = search needs
@@ -38,6 +38,6 @@ write-word-spec =
     sub-least
     least-requires-2
     program-word-requires
-    sub-t15
+    sub-t16
     same-length
     returns-2)

@@ -23,6 +23,9 @@ returns c =
     let a = c .before .before .before .before .before .before .before .before .args in
     renew-cut _ (a .z) (a .magic) (a .state .now) _ _ (c .before .before .before .before .erase .ensures) (c .enum-told .given .1)
 
+word-offset-requires : tie.Need-word-offset-requires
+word-offset-requires c κs = search needs
+
 cast-write-word : tie.Need-cast-write-word
 cast-write-word c = search needs
 
@@ -34,10 +37,11 @@ same-length-2 c = search needs
 
 returns-2 : tie.Need-returns-2
 returns-2 c =
-    let o = c .before .before .before .before .before .before in
+    let w = c .before .before .before .before .before in
+    let o = w .before .before in
     let e = o .before .before .before .before in
     let a = e .before .before .before .before .args in
-    renew-on _ (a .z) (a .magic) (a .state .now) _ _ (e .erase .ensures) _ _ _ (o .rest .given .1) (c .before .before .write-word .ensures)
+    renew-on _ (a .z) (a .magic) (a .state .now) _ _ (e .erase .ensures) _ _ _ (o .rest .given .1) (w .word-offset .ensures) (c .before .before .write-word .ensures)
 
 pub renew-spec : {M : Type 1} → statement M
 renew-spec =
@@ -49,6 +53,7 @@ renew-spec =
     enum-told
     same-length
     returns
+    word-offset-requires
     cast-write-word
     write-word-requires
     same-length-2
