@@ -8,6 +8,7 @@ ghost use Rattle.firmware_updater.specs.Updated.{lastOf};
 ghost use Rattle.packed.specs.Packed.{sectorOf};
 ghost use Rattle.packed.specs.Told.{sizes, Told, ToldRead, ToldWrite};
 use firmware_updater::BlockingFirmwareUpdater;
+use geometry::Offset;
 use geometry::Sizes;
 use geometry::StateSizes;
 use packed::NO_SECTOR;
@@ -38,7 +39,12 @@ pub fn read_dfu(
 ) -> u64
     ensures { λ r. ⌜ ToldRead (sizes ed wd es ws) offset (now (out .entry)) (now (out .exit)) (flash [] (now (dfu .entry)) (now (state .entry))) r ⌝ }
 {
-    packed::pack(updater(ed, wd, es, ws, NO_SECTOR).read_dfu(dfu, state, offset, out))
+    packed::pack(updater(ed, wd, es, ws, NO_SECTOR).read_dfu(
+        dfu,
+        state,
+        Offset(offset as usize),
+        out,
+    ))
 }
 
 // Writes data at an offset of DFU, sector by sector. Not while a swap is pending. The memory is the caller's, in `last`.
@@ -58,7 +64,7 @@ pub fn write_firmware(
         (flash [] (now (dfu .entry)) (now (state .entry))) (flash [] (now (dfu .exit)) (now (state .entry))) r ⌝ }
 {
     let before = updater(ed, wd, es, ws, *last);
-    let wrote = before.write_firmware(dfu, state, offset as usize, data, budget);
+    let wrote = before.write_firmware(dfu, state, Offset(offset as usize), data, budget);
     let after = wrote.updater;
     let memory = after.last_erased_dfu_sector_index;
     *last = packed::last_number(memory);

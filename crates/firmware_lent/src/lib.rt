@@ -9,6 +9,7 @@ ghost use Rattle.rules.specs.Calls.{reported, report, Did};
 ghost use Rattle.rules.specs.FirmwareUpdater.{updaterGetState, updaterMarkUpdated, updaterMarkDfu, updaterMarkBooted, readDfu, readOut};
 ghost use Rattle.firmware_updater.specs.Updated.{WroteFirmware, PreparedUpdate};
 use firmware_updater::BlockingFirmwareUpdater;
+use geometry::Offset;
 use rules::Answer;
 
 pub fn get_state_in(updater: &mut BlockingFirmwareUpdater, dfu: &[u8], state: &[u8]) -> Answer
@@ -22,11 +23,11 @@ pub fn read_dfu_in(
     updater: &mut BlockingFirmwareUpdater,
     dfu: &[u8],
     state: &[u8],
-    offset: u32,
+    offset: Offset,
     buf: &mut [u8],
 ) -> Answer
-    ensures { λ r. ⌜ ((reported r ≡ report (readDfu (now (updater .entry) .sizes) offset (length (now (buf .entry))) (flash [] (now (dfu .entry)) (now (state .entry)))) 0)
-        × (now (buf .exit) ≡ readOut (now (updater .entry) .sizes) offset (now (buf .entry)) (flash [] (now (dfu .entry)) (now (state .entry)))))
+    ensures { λ r. ⌜ ((reported r ≡ report (readDfu (now (updater .entry) .sizes) (offset .0) (length (now (buf .entry))) (flash [] (now (dfu .entry)) (now (state .entry)))) 0)
+        × (now (buf .exit) ≡ readOut (now (updater .entry) .sizes) (offset .0) (now (buf .entry)) (flash [] (now (dfu .entry)) (now (state .entry)))))
         × (now (updater .exit) ≡ now (updater .entry)) ⌝ }
 {
     (*updater).read_dfu(dfu, state, offset, buf)
@@ -75,15 +76,15 @@ pub fn write_firmware_in(
     updater: &mut BlockingFirmwareUpdater,
     dfu: &mut [u8],
     state: &[u8],
-    offset: usize,
+    offset: Offset,
     data: &[u8],
     budget: u32,
 ) -> Answer
-    ensures { λ r. ⌜ WroteFirmware (now (updater .entry)) budget offset (now («data» .entry)) (now (dfu .entry)) (now (state .entry)) (now (dfu .exit)) (now (updater .exit)) r ⌝ }
+    ensures { λ r. ⌜ WroteFirmware (now (updater .entry)) budget (offset .0) (now («data» .entry)) (now (dfu .entry)) (now (state .entry)) (now (dfu .exit)) (now (updater .exit)) r ⌝ }
 {
-    let r = (*updater).write_firmware(dfu, state, offset, data, budget);
-    *updater = r.updater;
-    r.answer
+    let wrote = (*updater).write_firmware(dfu, state, offset, data, budget);
+    *updater = wrote.updater;
+    wrote.answer
 }
 
 pub fn prepare_update_in(

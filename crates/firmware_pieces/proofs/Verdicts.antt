@@ -4,6 +4,7 @@ use mathlib.Core.Bool.{Bool, true, false, not}
 use mathlib.Core.List.{List}
 use Prim.Native.Nat.{ℕ}
 use borrow.Author.Tests.{not-true, not-false}
+use Rattle.state.specs.declared.State.{State}
 use Rattle.geometry.specs.declared.StateSizes.{StateSizes}
 use Rattle.geometry.specs.declared.Sizes.{Sizes}
 use Rattle.geometry.specs.declared.Refusal.{Refusal}
@@ -12,7 +13,8 @@ use Rattle.geometry.specs.declared.Verdict.the-variants as verdicts
 use Rattle.geometry.specs.Refusals.{updaterRefusal, verdict, number}
 use Rattle.geometry.proofs.Rows.{updater-early}
 use Rattle.geometry.proofs.Tests.{number-some}
-use Rattle.rules.specs.FirmwareUpdater.{pending}
+use Rattle.rules.specs.StateArea.{readState}
+use Rattle.rules.specs.FirmwareUpdater.{isSwap, pending}
 
 -- a refusal by rows 1 to 4 stands whatever rows 5 and 6 say
 pub early-refusal : (z : Sizes) (ld ls : ℕ) (swap range : Bool) (v : Verdict) (w : Refusal) → verdict v ≡ updaterRefusal z ld ls false false
@@ -21,10 +23,15 @@ unfolding verdict
 early-refusal z ld ls swap range v w e o =
     updater-early z ld ls swap range (number w) (number-some w) (sym (ap verdict o) ∙ e)
 
--- what verify_booted found, with the sizes z′ of the firmware state, holds for the sizes z
-module _ {z z′ : StateSizes} (s : List ℕ) {found : Bool} (same : z′ ≡ z) (e : found ≡ not (pending z′ s)) where
+-- what verify_booted answers in each state
+pub booted-is : (z : StateSizes) (st : List ℕ) {s t : State} → s ≡ readState z st → s ≡ t → not (isSwap t) ≡ not (pending z st)
+unfolding pending
+booted-is z st e o = ap (λ (x : State). not (isSwap x)) (sym o ∙ e)
+
+-- and what its answer says of row 5
+module _ (z : StateSizes) (s : List ℕ) {found : Bool} (e : found ≡ not (pending z s)) where
   pub is-booted : found ≡ true → pending z s ≡ false
-  is-booted t = ap (λ i. pending i s) (sym same) ∙ not-true _ (sym e ∙ t)
+  is-booted t = not-true _ (sym e ∙ t)
 
   pub is-pending : found ≡ false → pending z s ≡ true
-  is-pending f = ap (λ i. pending i s) (sym same) ∙ not-false _ (sym e ∙ f)
+  is-pending f = not-false _ (sym e ∙ f)

@@ -19,7 +19,7 @@ pub struct Wrote {
 }
 
 // Whether the sector is the one last erased.
-pub fn is_last(last: Sector, sector: usize) -> bool
+fn is_last(last: Sector, sector: usize) -> bool
     ensures { λ r. ⌜ r ≡ remembers last sector ⌝ }
 {
     match last {
@@ -29,21 +29,21 @@ pub fn is_last(last: Sector, sector: usize) -> bool
 }
 
 // One piece: its sector is erased unless it is the one last erased, and remembered once the erase is done.
-pub fn write_piece(
+fn write_piece(
     dfu: &mut [u8],
     ed: usize,
     last: Sector,
-    offset: usize,
+    offset: Offset,
     piece: &[u8],
     left: Budget,
 ) -> Wrote
-    requires { ⌜ (0 < ed) × (offset / ed * ed + ed ≤ length (now dfu)) ⌝ }
-    ensures { λ r. ⌜ WroteBy (left .0) ed (pieceOps ed last offset (now (piece .entry))) last (r .last) (now (dfu .entry)) (now (dfu .exit)) (r .flow)
-        × ((l : Budget) → r .flow ≡ Flow.On l → r .last ≡ Sector.At (offset / ed)) ⌝ }
+    requires { ⌜ (0 < ed) × (offset .0 / ed * ed + ed ≤ length (now dfu)) ⌝ }
+    ensures { λ r. ⌜ WroteBy (left .0) ed (pieceOps ed last (offset .0) (now (piece .entry))) last (r .last) (now (dfu .entry)) (now (dfu .exit)) (r .flow)
+        × ((l : Budget) → r .flow ≡ Flow.On l → r .last ≡ Sector.At (offset .0 / ed)) ⌝ }
 {
-    let sector = offset / ed;
+    let sector = offset.0 / ed;
     if is_last(last, sector) {
-        let flow = mem_flash::write(dfu, Offset(offset), piece, left);
+        let flow = mem_flash::write(dfu, offset, piece, left);
         return Wrote { last, flow };
     }
     let start = sector * ed;
@@ -53,7 +53,7 @@ pub fn write_piece(
             flow: Flow::Cut,
         };
     };
-    let flow = mem_flash::write(dfu, Offset(offset), piece, rest);
+    let flow = mem_flash::write(dfu, offset, piece, rest);
     Wrote {
         last: Sector::At(sector),
         flow,
@@ -61,11 +61,11 @@ pub fn write_piece(
 }
 
 // The bytes from an offset up to its sector's end, or to the end of the data.
-fn piece_length(ed: usize, offset: usize, rest: usize) -> usize
+fn piece_length(ed: usize, offset: Offset, rest: usize) -> usize
     requires { ⌜ (0 < ed) × (0 < rest) ⌝ }
-    ensures { λ r. ⌜ (r ≡ min rest (room ed offset)) × (0 < r) × (r ≤ rest) ⌝ }
+    ensures { λ r. ⌜ (r ≡ min rest (room ed (offset .0))) × (0 < r) × (r ≤ rest) ⌝ }
 {
-    let room = ed - offset % ed;
+    let room = ed - offset.0 % ed;
     if rest < room { rest } else { room }
 }
 
@@ -74,21 +74,21 @@ pub fn write_pieces(
     dfu: &mut [u8],
     ed: usize,
     last: Sector,
-    offset: usize,
+    offset: Offset,
     data: &[u8],
     left: Budget,
 ) -> Wrote
-    requires { ⌜ (0 < ed) × (length (now dfu) % ed ≡ 0) × (0 < length (now «data») → offset + length (now «data») ≤ length (now dfu)) ⌝ }
-    ensures { λ r. ⌜ WroteBy (left .0) ed (piecesOps ed last (pieces ed offset (now («data» .entry)))) last (r .last) (now (dfu .entry)) (now (dfu .exit)) (r .flow) ⌝ }
+    requires { ⌜ (0 < ed) × (length (now dfu) % ed ≡ 0) × (0 < length (now «data») → offset .0 + length (now «data») ≤ length (now dfu)) ⌝ }
+    ensures { λ r. ⌜ WroteBy (left .0) ed (piecesOps ed last (pieces ed (offset .0) (now («data» .entry)))) last (r .last) (now (dfu .entry)) (now (dfu .exit)) (r .flow) ⌝ }
 {
     let mut done = 0;
-    let mut at = offset;
+    let mut at = offset.0;
     let mut memory = last;
     let mut still = left;
     while done < data.len() {
-        let n = piece_length(ed, at, data.len() - done);
+        let n = piece_length(ed, Offset(at), data.len() - done);
         let end = done + n;
-        let wrote = write_piece(dfu, ed, memory, at, &data[done..end], still);
+        let wrote = write_piece(dfu, ed, memory, Offset(at), &data[done..end], still);
         memory = wrote.last;
         let flow = wrote.flow;
         let Flow::On(rest) = flow else {

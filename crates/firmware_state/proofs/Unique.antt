@@ -1,19 +1,11 @@
 -- Any two results that a contract of the firmware state allows for one input are equal: answer and area. Assumes nothing.
 use mathlib.Core.Path.{refl, sym, ap, _∙_}
-use mathlib.Core.Option.{none}
-use mathlib.Core.List.{[]}
 use Rattle.state.specs.OneResult.{OneResult}
-use Rattle.state.specs.Magic.{magic}
 use Rattle.geometry.specs.declared.StateSizes.{StateSizes}
-use Rattle.geometry.specs.Refusals.{verdict}
 use Rattle.mem_flash.specs.Flash.{Flash}
-use Rattle.rules.specs.Calls.{Call}
-use Rattle.rules.specs.FirmwareState.{setMagicOps}
 use Rattle.rules.proofs.Unique.{unique, answer-unique}
 use Rattle.firmware_state.proofs.BlockingFirmwareState.new.Kinds as new-kinds
 use Rattle.firmware_state.proofs.BlockingFirmwareState.new.Reads as new
-use Rattle.firmware_state.proofs.BlockingFirmwareState.verify_booted.Kinds as verify-booted-kinds
-use Rattle.firmware_state.proofs.BlockingFirmwareState.verify_booted.Reads as verify-booted
 use Rattle.firmware_state.proofs.BlockingFirmwareState.get_state.Kinds as get-state-kinds
 use Rattle.firmware_state.proofs.BlockingFirmwareState.get_state.Reads as get-state
 use Rattle.firmware_state.proofs.BlockingFirmwareState.mark_updated.Kinds as mark-updated-kinds
@@ -22,14 +14,9 @@ use Rattle.firmware_state.proofs.BlockingFirmwareState.mark_dfu.Kinds a
 use Rattle.firmware_state.proofs.BlockingFirmwareState.mark_dfu.Reads as mark-dfu
 use Rattle.firmware_state.proofs.BlockingFirmwareState.mark_booted.Kinds as mark-booted-kinds
 use Rattle.firmware_state.proofs.BlockingFirmwareState.mark_booted.Reads as mark-booted
-use Rattle.firmware_state.proofs.BlockingFirmwareState.mark.Kinds as mark-kinds
-use Rattle.firmware_state.proofs.BlockingFirmwareState.mark.Reads as mark
 
 pub new-unique : OneResult new-kinds.ps new-kinds.r new.Post
 new-unique κs a x y v w p q = (ap (λ (z : StateSizes). record { sizes = z }) (p ∙ sym q), refl)
-
-pub verify-booted-unique : OneResult verify-booted-kinds.ps verify-booted-kinds.r verify-booted.Post
-verify-booted-unique κs a x y v w p q = (p ∙ sym q, refl)
 
 pub get-state-unique : OneResult get-state-kinds.ps get-state-kinds.r get-state.Post
 get-state-unique κs a x y v w p q = (answer-unique x y (p ∙ sym q), refl)
@@ -49,15 +36,3 @@ pub mark-booted-unique : OneResult mark-booted-kinds.ps mark-booted-kinds.r mark
 mark-booted-unique κs a x y v w p q =
     let e = unique _ _ _ _ _ x y p q in
     (e .1, ap (λ (f : Flash). (tt, (f .state, (tt, tt)))) (e .0))
-
--- and what they share: whichever call has this verdict, no state and these operations
-pub mark-unique : OneResult mark-kinds.ps mark-kinds.r mark.Post
-mark-unique κs a x y v w p q =
-    let c : Call =
-    record {
-      refusal = verdict (a .1 .1 .1 .0);
-      state = none;
-      ops = setMagicOps (a .0 .sizes) (magic (a .1 .1 .0)) (a .1 .0 .now);
-    } in
-    let e = unique c _ _ _ _ x y (p c [] [] refl refl refl) (q c [] [] refl refl refl) in
-    (e .1, ap (λ (f : Flash). (tt, (f .state, (tt, (tt, (tt, tt)))))) (e .0))

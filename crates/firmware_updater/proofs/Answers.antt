@@ -13,7 +13,6 @@ use borrow.Author.Tests.{eq-eqb, ne-eqb}
 use Rattle.state.specs.declared.State.{State}
 use Rattle.state.specs.Choice.{pick}
 use Rattle.state.specs.Magic.{magic}
-use Rattle.geometry.specs.declared.StateSizes.{StateSizes}
 use Rattle.geometry.specs.declared.Sizes.{Sizes}
 use Rattle.geometry.specs.declared.Refusal.{Refusal}
 use Rattle.geometry.specs.declared.Verdict.{Verdict}
@@ -49,15 +48,14 @@ refused n {v} {w} e o =
 
 -- ---- the marks
 
--- what `does` is the firmware state's mark, whose sizes y are the updater's
-pub mark-did : (m : State) (swap : Bool) (z : Sizes) {k : ℕ} {y : StateSizes} (d s s′ : List ℕ) (v : Verdict) {r : Answer}
-    → ((c : Call) (a d : List ℕ) → verdict v ≡ c .refusal → c .state ≡ none → c .ops ≡ setMagicOps y (magic m) s
+-- what `does` is the mark at the updater's own state sizes
+pub mark-did : (m : State) (swap : Bool) (z : Sizes) {k : ℕ} (d s s′ : List ℕ) (v : Verdict) {r : Answer}
+    → ((c : Call) (a d : List ℕ) → verdict v ≡ c .refusal → c .state ≡ none → c .ops ≡ setMagicOps (z .state) (magic m) s
     → Did c k (flash a d s) (flash a d s′) r)
-    → y ≡ z .state → verdict v ≡ updaterRefusal z (length d) (length s) swap false
+    → verdict v ≡ updaterRefusal z (length d) (length s) swap false
     → Did (updaterMark m swap z (flash [] d s)) k (flash [] d s) (flash [] d s′) r
 unfolding updaterMark updaterCall
-mark-did m swap z d s s′ v does same e =
-    does (updaterMark m swap z (flash [] d s)) [] d e refl (ap (λ i. setMagicOps i (magic m) s) (sym same))
+mark-did m swap z d s s′ v does e = does (updaterMark m swap z (flash [] d s)) [] d e refl refl
 
 -- ---- read_dfu: the answer, and what the buffer `out` holds then
 

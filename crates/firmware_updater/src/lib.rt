@@ -1,4 +1,4 @@
-// The firmware updater: firmware_updater/blocking.rs, whose firmware state is the crate of that name. The areas are lent to each call, the sizes stand
+// The firmware updater: firmware_updater/blocking.rs. Its marks are those of the firmware state, by way of `firmware_marks`. The areas are lent to each call, the sizes stand
 // by value in the records, and a budget of operations stands for the power supply.
 ghost use mathlib.Core.Path.{_≡_};
 ghost use mathlib.Core.List.{[]};
@@ -8,7 +8,6 @@ ghost use Rattle.rules.specs.declared.Sector.{Sector};
 ghost use Rattle.rules.specs.Calls.{reported, report, Did};
 ghost use Rattle.rules.specs.FirmwareUpdater.{updaterGetState, updaterMarkUpdated, updaterMarkDfu, updaterMarkBooted, readDfu, readOut};
 ghost use Rattle.firmware_updater.specs.Updated.{lastOf, WroteFirmware, PreparedUpdate};
-use firmware_state::BlockingFirmwareState;
 use geometry::Offset;
 use geometry::Refusal;
 use geometry::Sizes;
@@ -54,19 +53,18 @@ impl BlockingFirmwareUpdater {
     }
 
     // Fills the buffer with the bytes of DFU from an offset on.
-    pub fn read_dfu(self, dfu: &[u8], state: &[u8], offset: u32, buf: &mut [u8]) -> Answer
-        ensures { λ r. ⌜ (reported r ≡ report (readDfu (self .sizes) offset (length (now (buf .entry))) (flash [] (now (dfu .entry)) (now (state .entry)))) 0)
-            × (now (buf .exit) ≡ readOut (self .sizes) offset (now (buf .entry)) (flash [] (now (dfu .entry)) (now (state .entry)))) ⌝ }
+    pub fn read_dfu(self, dfu: &[u8], state: &[u8], offset: Offset, buf: &mut [u8]) -> Answer
+        ensures { λ r. ⌜ (reported r ≡ report (readDfu (self .sizes) (offset .0) (length (now (buf .entry))) (flash [] (now (dfu .entry)) (now (state .entry)))) 0)
+            × (now (buf .exit) ≡ readOut (self .sizes) (offset .0) (now (buf .entry)) (flash [] (now (dfu .entry)) (now (state .entry)))) ⌝ }
     {
         let judged = verdicts::updater_verdict(self.sizes, dfu.len(), state.len());
         if let Verdict::Refused(why) = judged {
             return Answer::Refused(why);
         }
-        let from = offset as usize;
-        if firmware_pieces::range::past_end(dfu.len(), from, buf.len()) {
+        if firmware_pieces::range::past_end(dfu.len(), offset, buf.len()) {
             return Answer::Refused(Refusal::Range);
         }
-        firmware_pieces::range::copy_out(buf, dfu, from);
+        firmware_pieces::range::copy_out(buf, dfu, offset);
         Answer::Done(0)
     }
 
@@ -74,8 +72,9 @@ impl BlockingFirmwareUpdater {
         ensures { λ r. ⌜ Did (updaterMarkUpdated (self .sizes) (flash [] (now (dfu .entry)) (now (state .entry)))) budget
             (flash [] (now (dfu .entry)) (now (state .entry))) (flash [] (now (dfu .entry)) (now (state .exit))) r ⌝ }
     {
-        let judged = verdicts::updater_verdict(self.sizes, dfu.len(), state.len());
-        self.state().mark(state, State::Swap, judged, budget)
+        let z = self.sizes;
+        let judged = verdicts::updater_verdict(z, dfu.len(), state.len());
+        firmware_marks::mark(z.state, state, State::Swap, judged, budget)
     }
 
     // Not while a swap is pending.
@@ -83,16 +82,18 @@ impl BlockingFirmwareUpdater {
         ensures { λ r. ⌜ Did (updaterMarkDfu (self .sizes) (flash [] (now (dfu .entry)) (now (state .entry)))) budget
             (flash [] (now (dfu .entry)) (now (state .entry))) (flash [] (now (dfu .entry)) (now (state .exit))) r ⌝ }
     {
-        let judged = firmware_pieces::booted_verdict(self.sizes, dfu.len(), state);
-        self.state().mark(state, State::DfuDetach, judged, budget)
+        let z = self.sizes;
+        let judged = firmware_pieces::booted_verdict(z, dfu.len(), state);
+        firmware_marks::mark(z.state, state, State::DfuDetach, judged, budget)
     }
 
     pub fn mark_booted(self, dfu: &[u8], state: &mut [u8], budget: u32) -> Answer
         ensures { λ r. ⌜ Did (updaterMarkBooted (self .sizes) (flash [] (now (dfu .entry)) (now (state .entry)))) budget
             (flash [] (now (dfu .entry)) (now (state .entry))) (flash [] (now (dfu .entry)) (now (state .exit))) r ⌝ }
     {
-        let judged = verdicts::updater_verdict(self.sizes, dfu.len(), state.len());
-        self.state().mark(state, State::Boot, judged, budget)
+        let z = self.sizes;
+        let judged = verdicts::updater_verdict(z, dfu.len(), state.len());
+        firmware_marks::mark(z.state, state, State::Boot, judged, budget)
     }
 
     // Writes data at an offset of DFU, sector by sector. Not while a swap is pending.
@@ -100,11 +101,11 @@ impl BlockingFirmwareUpdater {
         self,
         dfu: &mut [u8],
         state: &[u8],
-        offset: usize,
+        offset: Offset,
         data: &[u8],
         budget: u32,
     ) -> Written
-        ensures { λ r. ⌜ WroteFirmware self budget offset (now («data» .entry)) (now (dfu .entry)) (now (state .entry)) (now (dfu .exit)) (r .updater) (r .answer) ⌝ }
+        ensures { λ r. ⌜ WroteFirmware self budget (offset .0) (now («data» .entry)) (now (dfu .entry)) (now (state .entry)) (now (dfu .exit)) (r .updater) (r .answer) ⌝ }
     {
         let judged = firmware_pieces::write_verdict(
             self.sizes,
@@ -171,12 +172,5 @@ impl BlockingFirmwareUpdater {
             updater: self,
             answer: Answer::Done(budget - rest.0),
         }
-    }
-
-    // The firmware state of the same state area. In the Rust, a field.
-    fn state(self) -> BlockingFirmwareState
-        ensures { λ r. ⌜ r .sizes ≡ self .sizes .state ⌝ }
-    {
-        BlockingFirmwareState::new(self.sizes.state)
     }
 }

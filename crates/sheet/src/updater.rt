@@ -4,6 +4,7 @@ use crate::show::Expected;
 use firmware_state::BlockingFirmwareState;
 use firmware_updater::BlockingFirmwareUpdater;
 use firmware_updater::Written;
+use geometry::Offset;
 use geometry::Sizes;
 use geometry::StateSizes;
 use rules::Answer;
@@ -103,7 +104,7 @@ fn write(
     offset: usize,
     data: &[u8],
 ) -> Written {
-    u.write_firmware(dfu, state, offset, data, 9)
+    u.write_firmware(dfu, state, Offset(offset), data, 9)
 }
 
 fn written(

@@ -21,27 +21,26 @@ returns c =
 enum-told : tie.Need-enum-told
 enum-told c = search needs
 
-new-requires : tie.Need-new-requires
-new-requires c κs = search needs
-
 verify-booted-requires : tie.Need-verify-booted-requires
 verify-booted-requires c κs = search needs
 
 -- no swap is pending
 returns-2 : tie.Need-returns-2
 returns-2 c =
-    let n = c .before .before in
-    let j = n .before .before .before in
-    updater-passed _ _ _ _ _ (verdict-admitted _ _ (j .updater-verdict .ensures) (n .before .enum-told .given .1))
-    (is-booted (j .before .before .args .state .now) (n .new .ensures) (c .before .verify-booted .ensures) (c .if1 .taken)) refl
+    let t = c .before .before in
+    let j = t .before .before in
+    let a = j .before .before .args in
+    updater-passed _ _ _ _ _ (verdict-admitted _ _ (j .updater-verdict .ensures) (t .enum-told .given .1))
+    (is-booted (a .sizes .state) (a .state .now) (c .before .verify-booted .ensures) (c .if1 .taken)) refl
 
 -- one is
 returns-3 : tie.Need-returns-3
 returns-3 c =
-    let n = c .before .before in
-    let j = n .before .before .before in
-    updater-swap _ _ _ _ _ (verdict-admitted _ _ (j .updater-verdict .ensures) (n .before .enum-told .given .1))
-    (is-pending (j .before .before .args .state .now) (n .new .ensures) (c .before .verify-booted .ensures) (c .if1 .left))
+    let t = c .before .before in
+    let j = t .before .before in
+    let a = j .before .before .args in
+    updater-swap _ _ _ _ _ (verdict-admitted _ _ (j .updater-verdict .ensures) (t .enum-told .given .1))
+    (is-pending (a .sizes .state) (a .state .now) (c .before .verify-booted .ensures) (c .if1 .left))
 
 pub booted-verdict-spec : {M : Type 1} → statement M
 booted-verdict-spec =
@@ -51,7 +50,6 @@ booted-verdict-spec =
     enum-known-judged
     returns
     enum-told
-    new-requires
     verify-booted-requires
     returns-2
     returns-3)

@@ -22,46 +22,46 @@ returns c =
 enum-told : tie.Need-enum-told
 enum-told c = search needs
 
-new-requires : tie.Need-new-requires
-new-requires c κs = search needs
-
 verify-booted-requires : tie.Need-verify-booted-requires
 verify-booted-requires c κs = search needs
 
 -- a swap is pending
 returns-2 : tie.Need-returns-2
 returns-2 c =
-    let n = c .before .before in
-    let j = n .before .before .before in
-    updater-swap _ _ _ _ _ (verdict-admitted _ _ (j .updater-verdict .ensures) (n .before .enum-told .given .1))
-    (is-pending (j .before .before .args .state .now) (n .new .ensures) (c .before .verify-booted .ensures) (not-true _ (c .if1 .taken)))
+    let t = c .before .before in
+    let j = t .before .before in
+    let a = j .before .before .args in
+    updater-swap _ _ _ _ _ (verdict-admitted _ _ (j .updater-verdict .ensures) (t .enum-told .given .1))
+    (is-pending (a .sizes .state) (a .state .now) (c .before .verify-booted .ensures) (not-true _ (c .if1 .taken)))
 
 cast-bad-range : tie.Need-cast-bad-range
 cast-bad-range c = search needs
 
 bad-range-requires : tie.Need-bad-range-requires
 bad-range-requires c κs =
-    let t = c .before .before .before .before in
+    let t = c .before .before .before in
     updater-admits _ _ _ _ _ (verdict-admitted _ _ (t .before .before .updater-verdict .ensures) (t .enum-told .given .1)) .0 .wd .some
 
 -- the range is bad
 returns-3 : tie.Need-returns-3
 returns-3 c =
     let i = c .before .before .before in
-    let n = i .before .before in
-    let j = n .before .before .before in
-    updater-range _ _ _ _ _ (verdict-admitted _ _ (j .updater-verdict .ensures) (n .before .enum-told .given .1))
-    (is-booted (j .before .before .args .state .now) (n .new .ensures) (i .before .verify-booted .ensures) (not-false _ (i .if1 .left)))
+    let t = i .before .before in
+    let j = t .before .before in
+    let a = j .before .before .args in
+    updater-range _ _ _ _ _ (verdict-admitted _ _ (j .updater-verdict .ensures) (t .enum-told .given .1))
+    (is-booted (a .sizes .state) (a .state .now) (i .before .verify-booted .ensures) (not-false _ (i .if1 .left)))
     (sym (c .before .bad-range .ensures) ∙ c .if2 .taken)
 
 -- no row holds
 returns-4 : tie.Need-returns-4
 returns-4 c =
     let i = c .before .before .before in
-    let n = i .before .before in
-    let j = n .before .before .before in
-    updater-passed _ _ _ _ _ (verdict-admitted _ _ (j .updater-verdict .ensures) (n .before .enum-told .given .1))
-    (is-booted (j .before .before .args .state .now) (n .new .ensures) (i .before .verify-booted .ensures) (not-false _ (i .if1 .left)))
+    let t = i .before .before in
+    let j = t .before .before in
+    let a = j .before .before .args in
+    updater-passed _ _ _ _ _ (verdict-admitted _ _ (j .updater-verdict .ensures) (t .enum-told .given .1))
+    (is-booted (a .sizes .state) (a .state .now) (i .before .verify-booted .ensures) (not-false _ (i .if1 .left)))
     (sym (c .before .bad-range .ensures) ∙ c .if2 .left)
 
 pub write-verdict-spec : {M : Type 1} → statement M
@@ -72,7 +72,6 @@ write-verdict-spec =
     enum-known-judged
     returns
     enum-told
-    new-requires
     verify-booted-requires
     returns-2
     cast-bad-range

@@ -14,12 +14,12 @@ use Rattle.firmware_pieces.proofs.pieces.write_pieces.Statement.{statem
 use Rattle.firmware_pieces.proofs.pieces.write_pieces.Tie as tie
 
 abbrev Inv-loop : tie.InvT-loop
-Inv-loop dfu₀ ed offset «data» done₀ at₀ memory₀ still₀ dfu done at memory still = (done ≤ length «data») × (at ≡ offset + done) × (length dfu ≡ length dfu₀)
+Inv-loop dfu₀ ed «data» done₀ at₀ memory₀ still₀ dfu done at memory still = (done ≤ length «data») × (at ≡ at₀ + done) × (length dfu ≡ length dfu₀)
     × ((m₂ : Sector) (xs₂ : List ℕ) (q : Flow) → WroteBy (still .0) ed (restOps ed memory at done «data») memory m₂ dfu xs₂ q
-    → WroteBy (still₀ .0) ed (restOps ed memory₀ offset 0 «data») memory₀ m₂ dfu₀ xs₂ q)
+    → WroteBy (still₀ .0) ed (restOps ed memory₀ at₀ 0 «data») memory₀ m₂ dfu₀ xs₂ q)
 
 abbrev μ-loop : tie.MeasureT-loop
-μ-loop dfu₀ ed offset «data» done₀ at₀ memory₀ still₀ dfu done at memory still = length «data» - done
+μ-loop dfu₀ ed «data» done₀ at₀ memory₀ still₀ dfu done at memory still = length «data» - done
 
 loop-holds : tie.Need-loop-holds Inv-loop μ-loop
 loop-holds c = (omega arith, omega arith, refl, λ m xs q w. w)

@@ -9,10 +9,10 @@ use Rattle.firmware_pieces.proofs.range.copy_out.Statement.{statement}
 use Rattle.firmware_pieces.proofs.range.copy_out.Tie as tie
 
 abbrev Inv-loop : tie.InvT-loop
-Inv-loop buf₀ source from i₀ buf i = (i ≤ length buf) × (length buf ≡ length buf₀) × (take i buf ≡ take i (drop from source))
+Inv-loop buf₀ source at i₀ buf i = (i ≤ length buf) × (length buf ≡ length buf₀) × (take i buf ≡ take i (drop at source))
 
 abbrev μ-loop : tie.MeasureT-loop
-μ-loop buf₀ source from i₀ buf i = length buf - i
+μ-loop buf₀ source at i₀ buf i = length buf - i
 
 loop-holds : tie.Need-loop-holds Inv-loop μ-loop
 loop-holds c = search needs
@@ -39,7 +39,7 @@ loop-again c =
     let s = i .before in (
       simp length-set (omega arith),
       simp length-set (i .loop .inv .1),
-      copy-turn (i .loop .i) (s .args .from) _ _ (s .args .source .now) (t .loop-test .taken)
+      copy-turn (i .loop .i) (s .args .from .0) _ _ (s .args .source .now) (t .loop-test .taken)
           (omega (arith, t .loop-test .taken, i .loop .inv .1, s .pre)) refl (i .loop .inv .2),
     )
 
@@ -50,7 +50,7 @@ returns : tie.Need-returns Inv-loop μ-loop
 returns c =
     let l = c .before .loop in
     let a = c .before .before .args in
-    copy-end (l .i) _ (a .from) _ (a .source .now) (c .loop-test .left) (l .inv .0) (l .inv .1) (l .inv .2)
+    copy-end (l .i) _ (a .from .0) _ (a .source .now) (c .loop-test .left) (l .inv .0) (l .inv .1) (l .inv .2)
 
 pub copy-out-spec : {M : Type 1} → statement M
 copy-out-spec =

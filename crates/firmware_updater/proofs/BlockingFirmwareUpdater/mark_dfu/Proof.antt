@@ -1,4 +1,4 @@
--- `mark_dfu`: the mark of the firmware state, at the updater's verdict. Assumes nothing.
+-- `mark_dfu`: the mark, at the updater's verdict. Assumes nothing.
 use Rattle.state.specs.declared.State.the-variants.{DfuDetach}
 use Rattle.rules.specs.FirmwareUpdater.{pending, updaterMarkDfu}
 use Rattle.firmware_updater.proofs.Answers.{mark-did}
@@ -8,9 +8,6 @@ use Rattle.firmware_updater.proofs.BlockingFirmwareUpdater.mark_dfu.Tie
 
 booted-verdict-requires : tie.Need-booted-verdict-requires
 booted-verdict-requires c κs = search needs
-
-state-requires : tie.Need-state-requires
-state-requires c κs = search needs
 
 mark-requires : tie.Need-mark-requires
 mark-requires c κs = search needs
@@ -22,10 +19,10 @@ returns : tie.Need-returns
 unfolding updaterMarkDfu
 returns c =
     let m = c .before .before in
-    let j = m .before .before .before in
-    let a = j .before .before .before .before .args in
-    mark-did DfuDetach (pending (a .self .sizes .state) (a .state .now)) (a .self .sizes) (a .dfu .now) (a .state .now) _ _ (m .mark .ensures) (m .before .before .state .ensures) (j .booted-verdict .ensures)
+    let j = m .before .before in
+    let a = j .before .before .before .before .before .args in
+    mark-did DfuDetach (pending (a .self .sizes .state) (a .state .now)) (a .self .sizes) (a .dfu .now) (a .state .now) _ _ (m .mark .ensures) (j .booted-verdict .ensures)
 
 pub mark-dfu-spec : {M : Type 1} → statement M
 mark-dfu-spec =
-    tie.close (tie.spec booted-verdict-requires state-requires mark-requires same-length returns)
+    tie.close (tie.spec booted-verdict-requires mark-requires same-length returns)

@@ -1,4 +1,4 @@
--- `mark_updated`: the mark of the firmware state, at the updater's verdict. Assumes nothing.
+-- `mark_updated`: the mark, at the updater's verdict. Assumes nothing.
 use mathlib.Core.Bool.{false}
 use Rattle.state.specs.declared.State.the-variants.{Swap}
 use Rattle.rules.specs.FirmwareUpdater.{updaterMarkUpdated}
@@ -10,9 +10,6 @@ use Rattle.firmware_updater.proofs.BlockingFirmwareUpdater.mark_updated
 updater-verdict-requires : tie.Need-updater-verdict-requires
 updater-verdict-requires c κs = search needs
 
-state-requires : tie.Need-state-requires
-state-requires c κs = search needs
-
 mark-requires : tie.Need-mark-requires
 mark-requires c κs = search needs
 
@@ -23,10 +20,10 @@ returns : tie.Need-returns
 unfolding updaterMarkUpdated
 returns c =
     let m = c .before .before in
-    let j = m .before .before .before in
-    let a = j .before .before .before .args in
-    mark-did Swap false (a .self .sizes) (a .dfu .now) (a .state .now) _ _ (m .mark .ensures) (m .before .before .state .ensures) (j .updater-verdict .ensures)
+    let j = m .before .before in
+    let a = j .before .before .before .before .args in
+    mark-did Swap false (a .self .sizes) (a .dfu .now) (a .state .now) _ _ (m .mark .ensures) (j .updater-verdict .ensures)
 
 pub mark-updated-spec : {M : Type 1} → statement M
 mark-updated-spec =
-    tie.close (tie.spec updater-verdict-requires state-requires mark-requires same-length returns)
+    tie.close (tie.spec updater-verdict-requires mark-requires same-length returns)

@@ -21,7 +21,7 @@ returns : tie.Need-returns
 returns c =
     let j = c .before .before .before in
     let a = j .before .before .before .before .args in
-    let d = read-refused (a .self .sizes) (a .offset) (a .buf .now) (a .dfu .now) (a .state .now)
+    let d = read-refused (a .self .sizes) (a .offset .0) (a .buf .now) (a .dfu .now) (a .state .now)
     (early-refusal _ _ _ _ _ _ _ (j .updater-verdict .ensures) (c .before .judged .given .1)) refl in
     (d .0, rw (← d .1))
 
@@ -36,7 +36,7 @@ returns-2 c =
     let t = c .before .before in
     let j = t .before .before in
     let a = j .before .before .before .before .args in
-    let d = read-refused (a .self .sizes) (a .offset) (a .buf .now) (a .dfu .now) (a .state .now)
+    let d = read-refused (a .self .sizes) (a .offset .0) (a .buf .now) (a .dfu .now) (a .state .now)
     (updater-range _ _ _ _ _ (verdict-admitted _ _ (j .updater-verdict .ensures) (t .enum-told .given .1)) refl
     (sym (c .before .past-end .ensures) ∙ c .if1 .taken)) refl in
     (d .0, rw (← d .1))
@@ -54,7 +54,7 @@ returns-3 c =
     let t = i .before .before in
     let j = t .before .before in
     let a = j .before .before .before .before .args in
-    let d = read-done (a .self .sizes) (a .offset) (a .buf .now) (a .dfu .now) (a .state .now)
+    let d = read-done (a .self .sizes) (a .offset .0) (a .buf .now) (a .dfu .now) (a .state .now)
     (updater-passed _ _ _ _ _ (verdict-admitted _ _ (j .updater-verdict .ensures) (t .enum-told .given .1)) refl
     (sym (i .before .past-end .ensures) ∙ i .if1 .left)) refl (c .before .before .copy-out .ensures) in
     (d .0, rw (← d .1))

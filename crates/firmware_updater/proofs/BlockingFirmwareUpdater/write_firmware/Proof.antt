@@ -17,7 +17,7 @@ returns : tie.Need-returns
 returns c =
     let j = c .before .before .before in
     let a = j .before .before .before .before .args in
-    firmware-refused (a .self) (a .dfu .now) (a .state .now) (a .offset) (a .«data» .now) (j .write-verdict .ensures) (c .before .judged .given .1)
+    firmware-refused (a .self) (a .dfu .now) (a .state .now) (a .offset .0) (a .«data» .now) (j .write-verdict .ensures) (c .before .judged .given .1)
 
 enum-told : tie.Need-enum-told
 enum-told c = search needs
@@ -30,7 +30,7 @@ write-pieces-requires c κs =
     let t = c .before .before .before in
     let j = t .before .before in
     let a = j .before .before .before .before .args in
-    firmware-room (a .self) (a .dfu .now) (a .state .now) (a .offset) (a .«data» .now) (j .write-verdict .ensures) (t .enum-told .given .1)
+    firmware-room (a .self) (a .dfu .now) (a .state .now) (a .offset .0) (a .«data» .now) (j .write-verdict .ensures) (t .enum-told .given .1)
 
 enum-known-flow : tie.Need-enum-known-flow
 enum-known-flow c = search needs
@@ -47,7 +47,7 @@ returns-2 c =
     let t = w .before .before .before .before in
     let j = t .before .before in
     let a = j .before .before .before .before .args in
-    firmware-cut (a .self) (a .dfu .now) (a .state .now) (a .offset) (a .«data» .now) (j .write-verdict .ensures) (t .enum-told .given .1)
+    firmware-cut (a .self) (a .dfu .now) (a .state .now) (a .offset .0) (a .«data» .now) (j .write-verdict .ensures) (t .enum-told .given .1)
     (w .write-pieces .ensures) (c .enum-told2 .given .1)
 
 sub-t23 : tie.Need-sub-t23
@@ -65,7 +65,7 @@ returns-3 c =
     let t = w .before .before .before .before in
     let j = t .before .before in
     let a = j .before .before .before .before .args in
-    firmware-done (a .self) (a .dfu .now) (a .state .now) (a .offset) (a .«data» .now) (j .write-verdict .ensures) (t .enum-told .given .1)
+    firmware-done (a .self) (a .dfu .now) (a .state .now) (a .offset .0) (a .«data» .now) (j .write-verdict .ensures) (t .enum-told .given .1)
     (w .write-pieces .ensures) (f .flow .given .1)
 
 pub write-firmware-spec : {M : Type 1} → statement M

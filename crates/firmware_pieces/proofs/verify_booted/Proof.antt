@@ -1,10 +1,8 @@
 use Rattle.rules.specs.FirmwareUpdater.{isSwap}
-use Rattle.firmware_state.proofs.Answers.{booted-is}
+use Rattle.firmware_pieces.proofs.Verdicts.{booted-is}
 use borrow.Author.Needs.{needs}
-use Rattle.firmware_state.proofs.BlockingFirmwareState.verify_booted.Statement.{
-  statement,
-}
-use Rattle.firmware_state.proofs.BlockingFirmwareState.verify_booted.Tie as tie
+use Rattle.firmware_pieces.proofs.verify_booted.Statement.{statement}
+use Rattle.firmware_pieces.proofs.verify_booted.Tie as tie
 
 read-requires : tie.Need-read-requires
 read-requires c κs = search needs

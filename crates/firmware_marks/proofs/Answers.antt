@@ -1,12 +1,10 @@
--- Laws of the firmware state's answers: the state that is pending, the setting of a magic, and what a call that marks leaves at
--- each way out. Assumes nothing.
-use mathlib.Core.Path.{_≡_, ap, _∙_, sym}
-use mathlib.Core.Bool.{true, false, not}
+-- Laws of a mark: the setting of a magic, and what a call that marks leaves at each way out. Assumes nothing.
+use mathlib.Core.Path.{_≡_, _∙_}
+use mathlib.Core.Bool.{true, false}
 use mathlib.Core.Option.{none}
 use mathlib.Core.List.{List, [], _∷_}
 use Prim.Native.Nat.{ℕ, _-_}
 use lib.ListN.{length}
-use Rattle.state.specs.declared.State.{State}
 use Rattle.state.specs.Choice.{pick}
 use Rattle.state.specs.Magic.{throughout}
 use Rattle.geometry.specs.declared.StateSizes.{StateSizes}
@@ -20,17 +18,11 @@ use Rattle.mem_flash.specs.Flash.{Op}
 use Rattle.mem_flash.specs.Run.{flash, run, Ran}
 use Rattle.mem_flash.proofs.Runs.{then-on, then-cut, ran}
 use Rattle.rules.specs.declared.Answer.the-variants as answers
-use Rattle.rules.specs.StateArea.{word, readState, valid, invalidateOp}
+use Rattle.rules.specs.StateArea.{word, valid, invalidateOp}
 use Rattle.rules.specs.FirmwareState.{setMagicOps}
 use Rattle.rules.specs.Calls.{Call, Did}
-use Rattle.rules.specs.FirmwareUpdater.{isSwap, pending}
 use Rattle.rules.proofs.Did.{verdict-admitted, did-cut, did-done}
 use Rattle.state_area.specs.Area.{InState, Invalidated, Renewed}
-
--- what verify_booted answers in each state
-pub booted-is : (z : StateSizes) (st : List ℕ) {s t : State} → s ≡ readState z st → s ≡ t → not (isSwap t) ≡ not (pending z st)
-unfolding pending
-booted-is z st e o = ap (λ (x : State). not (isSwap x)) (sym o ∙ e)
 
 -- ---- a magic
 

@@ -1,8 +1,8 @@
 use mathlib.Core.Path.{sym, _∙_}
-use Rattle.firmware_state.proofs.Answers.{magic-there, magic-renew, magic-cut, magic-on}
+use Rattle.firmware_marks.proofs.Answers.{magic-there, magic-renew, magic-cut, magic-on}
 use borrow.Author.Needs.{needs}
-use Rattle.firmware_state.proofs.BlockingFirmwareState.set_magic.Statement.{statement}
-use Rattle.firmware_state.proofs.BlockingFirmwareState.set_magic.Tie as tie
+use Rattle.firmware_marks.proofs.set_magic.Statement.{statement}
+use Rattle.firmware_marks.proofs.set_magic.Tie as tie
 
 magic-is-requires : tie.Need-magic-is-requires
 magic-is-requires c κs = search needs

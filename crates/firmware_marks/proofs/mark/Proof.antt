@@ -3,10 +3,10 @@ use mathlib.Core.List.{[]}
 use Rattle.mem_flash.proofs.Runs.{ran}
 use Rattle.rules.specs.FirmwareState.{setMagicOps}
 use Rattle.rules.proofs.Did.{did-refused, on-low}
-use Rattle.firmware_state.proofs.Answers.{mark-cut, mark-done}
+use Rattle.firmware_marks.proofs.Answers.{mark-cut, mark-done}
 use borrow.Author.Needs.{needs}
-use Rattle.firmware_state.proofs.BlockingFirmwareState.mark.Statement.{statement}
-use Rattle.firmware_state.proofs.BlockingFirmwareState.mark.Tie as tie
+use Rattle.firmware_marks.proofs.mark.Statement.{statement}
+use Rattle.firmware_marks.proofs.mark.Tie as tie
 
 enum-known-judged : tie.Need-enum-known-judged
 enum-known-judged c = search needs
@@ -37,7 +37,7 @@ returns-2 c =
     λ k a d e s x.
     let w = c .before .before .before .before in
     let g = w .before .before .before .before .before .before .args in
-    let m = ap (λ m. setMagicOps (g .self .sizes) m (g .state .now)) (sym (w .before .magic .ensures)) in
+    let m = ap (λ m. setMagicOps (g .z) m (g .state .now)) (sym (w .before .magic .ensures)) in
     mark-cut k _ _ _ a d _ _ _ e (w .before .before .before .enum-told .given .1) s (x ∙ m) (w .set-magic .ensures) (c .enum-told2 .given .1)
 
 sub-t13 : tie.Need-sub-t13
@@ -51,7 +51,7 @@ returns-3 c =
     λ k a d e s x.
     let w = c .before .before .before .before .before .before in
     let g = w .before .before .before .before .before .before .args in
-    let m = ap (λ m. setMagicOps (g .self .sizes) m (g .state .now)) (sym (w .before .magic .ensures)) in
+    let m = ap (λ m. setMagicOps (g .z) m (g .state .now)) (sym (w .before .magic .ensures)) in
     mark-done k _ _ _ a d _ _ _ e (w .before .before .before .enum-told .given .1) s (x ∙ m) (w .set-magic .ensures) _ (c .before .before .rest .given .1)
 
 pub mark-spec : {M : Type 1} → statement M
