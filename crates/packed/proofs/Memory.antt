@@ -3,7 +3,7 @@
 use mathlib.Core.Path.{_≡_, refl, ap, sym}
 use mathlib.Core.Bool.{Bool, true, false}
 use mathlib.Core.List.{List, [], _∷_, _++_}
-use Prim.Native.Nat.{ℕ, zero, suc, _+_, _/_, _^_, _≤_, _<_}
+use Prim.Native.Nat.{ℕ, zero, suc, _+_, _/_, _^_, _≤_, _<_, min}
 use native.Mathlib.Nat.{div-add-mod', div-le-self}
 use native.Mathlib.Decide.{decLe}
 use native.Mathlib.Omega.{arith}
@@ -117,36 +117,29 @@ module _ (k : ℕ) (z : Sizes) (m : Sector) (offset : ℕ) (bytes : List ℕ) (f
 
 -- ---- in 32 bits
 
-fits : {m n : Sector} → Remembers mostLength m n → lastNumber m < 2 ^ 32 → lastNumber n < 2 ^ 32
-unfolding lastNumber mostLength
-fits same h = h
-fits (other k) h = omega arith
-
 -- a caller's number stands for a memory whose number it is
-pub last-sector : (n : ℕ) → lastNumber (sectorOf n) ≡ n
-unfolding sectorOf lastNumber pick
-last-sector n = go _ refl
+pub last-sector : (n : ℕ) → n < 2 ^ 32 → lastNumber (sectorOf n) ≡ n
+unfolding sectorOf lastNumber pick noSector
+last-sector n h = go _ refl
   where
     go : (b : Bool) → eqb n noSector ≡ b → lastNumber (pick b None (At n)) ≡ n
     go true e = sym (eqb-true _ _ e)
-    go false e = refl
-
-pub memory-fits : (k : ℕ) (z : Sizes) (n offset : ℕ) (bytes : List ℕ) (f : Flash) → n < 2 ^ 32
-    → lastNumber (memory k z (sectorOf n) offset bytes f) < 2 ^ 32
-memory-fits k z n offset bytes f h = fits (memory-one k z (sectorOf n) offset bytes f) (rw (last-sector n) h)
+    go false e = omega arith
 
 -- what is written back stands for the memory itself, so that a caller who hands it in again goes on with that memory
-pub memory-again : (k : ℕ) (z : Sizes) (n offset : ℕ) (bytes : List ℕ) (f : Flash)
+pub memory-again : (k : ℕ) (z : Sizes) (n offset : ℕ) (bytes : List ℕ) (f : Flash) → n < 2 ^ 32
     → sectorOf (lastNumber (memory k z (sectorOf n) offset bytes f)) ≡ memory k z (sectorOf n) offset bytes f
 unfolding sectorOf lastNumber pick noSector mostLength
-memory-again k z n offset bytes f = go (memory-one k z (sectorOf n) offset bytes f)
+memory-again k z n offset bytes f l = go (memory-one k z (sectorOf n) offset bytes f)
   where
     go : {m : Sector} → Remembers mostLength (sectorOf n) m → sectorOf (lastNumber m) ≡ m
-    go same = ap sectorOf (last-sector n)
-    go (other {s} h) = rw (ne-eqb s 4294967295 (λ q. omega (arith, h, q)))
+    go same = ap sectorOf (last-sector n l)
+    go (other {s} h) =
+        let e : min s 4294967295 ≡ s = omega arith in
+        rw (e, ne-eqb s 4294967295 (λ q. omega (arith, h, q)))
 
 -- a refusal leaves the caller's number as it came
-pub memory-refused : (k : ℕ) (z : Sizes) (n offset : ℕ) (bytes : List ℕ) (f : Flash)
+pub memory-refused : (k : ℕ) (z : Sizes) (n offset : ℕ) (bytes : List ℕ) (f : Flash) → n < 2 ^ 32
     → (writeFirmware z (sectorOf n) offset bytes f .refusal ≡ 0 → ⊥) → lastNumber (memory k z (sectorOf n) offset bytes f) ≡ n
 unfolding memory pick
-memory-refused k z n offset bytes f h = rw (ne-eqb _ _ h) (last-sector n)
+memory-refused k z n offset bytes f l h = rw (ne-eqb _ _ h) (last-sector n l)

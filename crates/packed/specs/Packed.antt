@@ -1,6 +1,6 @@
 -- How a report and the updater's memory stand in plain numbers at the C boundary, where no enum can pass. Assumes nothing.
 use mathlib.Core.Option.{Option, none, some}
-use Prim.Native.Nat.{ℕ, _+_, _*_, _^_}
+use Prim.Native.Nat.{ℕ, _+_, _*_, _^_, min}
 use lib.Dec.{eqb}
 use Rattle.state.specs.declared.State.{State}
 use Rattle.state.specs.Choice.{pick}
@@ -29,6 +29,7 @@ noSector = 4294967295
 unfoldable pub sectorOf : ℕ → Sector
 sectorOf n = pick (eqb n noSector) None (At n)
 
+-- (a sector past all numbers would read as none: no area has one)
 unfoldable pub lastNumber : Sector → ℕ
 lastNumber None = noSector
-lastNumber (At s) = s
+lastNumber (At s) = min s noSector

@@ -2,7 +2,7 @@
 // the updater's memory as a number that the caller keeps. The rules are in specs/Packed; proofs/Apart and proofs/Memory say that nothing
 // is lost.
 ghost use mathlib.Core.Path.{_≡_};
-ghost use Prim.Native.Nat.{_≤_, _<_, _^_};
+ghost use Prim.Native.Nat.{_≤_};
 ghost use Rattle.state.specs.Magic.{stateNumber};
 ghost use Rattle.rules.specs.Calls.{reported};
 ghost use Rattle.packed.specs.Packed.{joined, packed, sectorOf, lastNumber};
@@ -57,11 +57,10 @@ pub fn sector(last: u32) -> Sector
 }
 
 pub fn last_number(memory: Sector) -> u32
-    requires { ⌜ lastNumber memory < 2 ^ 32 ⌝ }
     ensures { λ r. ⌜ r ≡ lastNumber memory ⌝ }
 {
     match memory {
         Sector::None => NO_SECTOR,
-        Sector::At(s) => s as u32,
+        Sector::At(s) => geometry::least(s, NO_SECTOR as usize) as u32,
     }
 }

@@ -1,6 +1,6 @@
--- `write_firmware` meets its contract. What is remembered fits the caller's number by `write-fits`.
+-- `write_firmware` meets its contract: the updater's promise, with the caller's sizes and memory.
 -- Assumes nothing.
-use Rattle.boundary_updater.proofs.Wrote.{told-write, write-fits}
+use Rattle.boundary_updater.proofs.Wrote.{told-write}
 use borrow.Author.Needs.{needs}
 use Rattle.boundary_updater.proofs.write_firmware.Statement.{statement}
 use Rattle.boundary_updater.proofs.write_firmware.Tie as tie
@@ -12,7 +12,7 @@ write-firmware-requires : tie.Need-write-firmware-requires
 write-firmware-requires c κs = search needs
 
 last-number-requires : tie.Need-last-number-requires
-last-number-requires c κs = write-fits _ (c .before .before .before .before .before .updater .ensures) (c .before .before .before .write-firmware .ensures) (search needs)
+last-number-requires c κs = search needs
 
 pack-requires : tie.Need-pack-requires
 pack-requires c κs = search needs
