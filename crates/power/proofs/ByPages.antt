@@ -1,6 +1,5 @@
 -- The swap table and the revert's images page by page (specs/Pages): `never-mixed`. Assumes nothing.
 use mathlib.Core.Path.{_≡_, refl, sym, subst}
-use mathlib.Core.Logic.{inl, inr}
 use mathlib.Core.List.{List, _++_}
 use Prim.Native.Nat.{ℕ, _+_, _-_}
 use native.Mathlib.Numerals.{add-one}
@@ -11,15 +10,14 @@ use Rattle.geometry.specs.declared.Geometry.{Geometry}
 use Rattle.geometry.specs.Geometry.{page, words}
 use Rattle.mem_flash.specs.Flash.{Flash}
 use Rattle.rules.specs.Steps.{pageCount}
-use Rattle.rules.specs.Power.{pageAt, swapTable, revertImages, revertMarks}
+use Rattle.rules.specs.Power.{pageAt, swapTable, revertImages, reverted, revertedPart}
 use Rattle.rules.proofs.Pages.{pages-le, length-page, page-put, before-put, behind-put, length-put}
 use Rattle.way.proofs.Images.{newDfu, images, dfu-behind}
 use Rattle.way.proofs.Sized.{Sized, sized}
-use Rattle.way.proofs.Finish.{closed}
-use Rattle.power.specs.Power.{Ready, ran, runs}
+use Rattle.power.specs.Power.{Ready}
 use Rattle.power.specs.Pages.{SwappedPages, RevertedPages, NeverMixed}
-use Rattle.power.proofs.Reverts.{Turns}
-use Rattle.power.proofs.Proved.{revertedDfu, turns, power}
+use Rattle.power.proofs.Reverts.{either}
+use Rattle.power.proofs.Proved.{power}
 
 module _ (g : Geometry) (f : Flash) (r : Ready g f) where
   s : Sized g f (words (g .state .ws) (length (f .state)) - 2)
@@ -67,16 +65,10 @@ module _ (g : Geometry) (f : Flash) (r : Ready g f) where
           ))
 
   pub never-mixed : NeverMixed g f
-  unfolding revertImages closed
+  unfolding reverted revertedPart
   never-mixed =
       record {
         swapped = λ ks k w. subst (SwappedPages g f) (sym (power g f r .swaps ks k w .flash)) swapped-pages;
-        reverted = λ ks k w. go ks k (turns g f r ks k w);
+        reverted = λ ks k w.
+            either g ks k _ _ (λ (u : ℕ). revertedPart g u f) (RevertedPages g f) (reverted-pages _) (λ u. reverted-pages _) (power g f r .reverts ks k w);
       }
-    where
-      go : (ks : List ℕ) (k : ℕ)
-          → Turns g ks k (swapTable g f) (f .active) (revertedDfu g f) (length (f .state))
-          (revertMarks (g .state) (pageCount g f) (length (f .state)))
-          → RevertedPages g f (ran g k (runs g ks (swapTable g f)))
-      go ks k (inl e) = subst (RevertedPages g f) (sym (e .1 .flash)) (reverted-pages _)
-      go ks k (inr e) = subst (RevertedPages g f) (sym (e .4 .flash)) (reverted-pages _)

@@ -8,22 +8,23 @@ use native.Mathlib.Nat.{zero-mul}
 use native.Mathlib.Omega.{arith}
 use lib.ListN.{length, take, drop, take-append-drop}
 use Rattle.state.specs.declared.State.{State}
+use Rattle.state.specs.declared.State.the-variants.{Revert}
 use Rattle.geometry.specs.declared.Geometry.{Geometry}
 use Rattle.geometry.specs.Geometry.{page}
-use Rattle.mem_flash.specs.Flash.{Flash, Op}
+use Rattle.mem_flash.specs.Flash.{Flash, Op, blank}
 use Rattle.rules.specs.Steps.{swapFrom, pageCount}
 use Rattle.rules.specs.Boot.{finishOps, bootOps}
-use Rattle.rules.specs.Power.{swapTable, revertMarks, stateUnits}
+use Rattle.rules.specs.Power.{magicArea, swapTable, revertMarks, stateUnits}
 use Rattle.rules.proofs.Pages.{mix, mix-none}
 use Rattle.way.proofs.Finish.{closed, finish-count}
 use Rattle.way.proofs.Way.{Way}
 use Rattle.way.proofs.Images.{newDfu}
 use Rattle.way.proofs.Wanted.{wants-revert}
 use Rattle.way.proofs.Reverted.{copies-past}
-use Rattle.power.specs.Power.{Marked, FirstWhole, NoPages}
+use Rattle.power.specs.Power.{Marked, FirstWhole, ByLastCut, NoPages}
 use Rattle.power.proofs.Runs.{answer-done}
 use Rattle.power.proofs.Start.{stateBytes, start-sized, start-reads, way-there}
-use Rattle.power.proofs.Reverts.{Turns, turned, rested, turns-back}
+use Rattle.power.proofs.Reverts.{either, turns-back}
 
 module _ (g : Geometry) (f : Flash) (m : Marked g f) (none : pageCount g f ≡ 0) where
   -- active is empty
@@ -63,11 +64,16 @@ module _ (g : Geometry) (f : Flash) (m : Marked g f) (none : pageCount g f ≡ 0
       ∙ ap (λ (os : List Op). os ++ finishOps g f) (copies-past g f (pageCount g f) 0 (2 * pageCount g f) (omega (arith, none))))
       ∙ finish-count g f
 
-  turns-none : (ks : List ℕ) (k : ℕ) → FirstWhole g ks k f
-      → Turns g ks k f (f .active) (f .dfu) (length (f .state)) (revertMarks (g .state) 0 (length (f .state)))
+  -- the two ends, with the marks of n pages
+  abbrev whole : Flash
+  whole = closed (f .active) (f .dfu) (magicArea (g .state) Revert (length (f .state)))
+
+  abbrev part : ℕ → ℕ → Flash
+  part n u = closed (f .active) (f .dfu) (blank (u * g .state .es) (revertMarks (g .state) n (length (f .state))))
+
+  turns-none : (ks : List ℕ) (k : ℕ) → FirstWhole g ks k f → ByLastCut g ks k f whole (part 0)
   turns-none ks k =
-      subst₂ (λ (x : Flash) (n : ℕ). FirstWhole g ks k x
-      → Turns g ks k x (f .active) (f .dfu) (length (f .state)) (revertMarks (g .state) n (length (f .state)))) already none
+      subst₂ (λ (x : Flash) (n : ℕ). FirstWhole g ks k x → ByLastCut g ks k x whole (part n)) already none
       (turns-back g f m (f .dfu) stays ks k)
 
   pub no-pages : NoPages g f
@@ -78,7 +84,7 @@ module _ (g : Geometry) (f : Flash) (m : Marked g f) (none : pageCount g f ≡ 0
         at-once = λ k h.
             answer-done g k f (m .admitted) (rw count h)
             ∙ ap₂ (λ (x : State) (c : ℕ). record { number = 0; state = some x; count = c }) (start-reads g f m .swap) count;
-        reverts = λ ks k w o. turned g ks k f (f .active) (f .dfu) (length (f .state)) _ refl (turns-none ks k w) o;
-        rests = λ ks k r w one most o.
-            rested g ks k f (f .active) (f .dfu) (length (f .state)) _ (turns-none ks k w) r one most o;
+        reverts-active = λ ks k w. either g ks k f whole (part 0) (λ (x : Flash). x .active ≡ f .active) refl (λ u. refl) (turns-none ks k w);
+        reverts-dfu = λ ks k w. either g ks k f whole (part 0) (λ (x : Flash). x .dfu ≡ f .dfu) refl (λ u. refl) (turns-none ks k w);
+        reverts = turns-none;
       }

@@ -1,5 +1,5 @@
 -- Demand 3 (specs/Power): `power`, and that an admitted state area has enough words. Assumes nothing.
-use mathlib.Core.Path.{_≡_, sym, ap, _∙_, subst}
+use mathlib.Core.Path.{_≡_, refl, sym, ap, _∙_, subst}
 use mathlib.Core.List.{List}
 use Prim.Native.Nat.{ℕ, _-_}
 use native.Mathlib.Omega.{arith}
@@ -17,9 +17,9 @@ use Rattle.rules.proofs.MarkedArea.{reverted-size}
 use Rattle.way.proofs.Finish.{closed}
 use Rattle.way.proofs.Images.{newDfu, mix-reverted}
 use Rattle.way.proofs.Sized.{Sized, sized}
-use Rattle.power.specs.Power.{Ready, FirstWhole, Power, EnoughWords}
+use Rattle.power.specs.Power.{Ready, FirstWhole, ByLastCut, Power, EnoughWords}
 use Rattle.power.proofs.Swaps.{swaps}
-use Rattle.power.proofs.Reverts.{Turns, turned, rested, swapped-size, turns-back}
+use Rattle.power.proofs.Reverts.{either, turns-back}
 use Rattle.power.proofs.SwapBounds.{swap-soon, swap-gains, swap-stays, swap-never}
 use Rattle.power.proofs.RevertBounds.{revert-soon, revert-sooner, back-gains, back-stays, back-never}
 
@@ -29,7 +29,7 @@ unfolding pageCount bootWords
 enough-words g f r = admitted g (length (f .active)) (length (f .dfu)) (length (f .state)) r .state-words
 
 -- DFU after the revert: as before the swap but for page N
-abbrev pub revertedDfu : Geometry → Flash → List ℕ
+abbrev revertedDfu : Geometry → Flash → List ℕ
 revertedDfu g f = withPage (page g) (pageCount g f) (pageAt (page g) (pageCount g f - 1) (f .active)) (f .dfu)
 
 module _ (g : Geometry) (f : Flash) (r : Ready g f) where
@@ -39,9 +39,9 @@ module _ (g : Geometry) (f : Flash) (r : Ready g f) where
   end : mix (page g) (pageCount g f) (f .dfu) (newDfu (page g) (f .active) (f .dfu)) ≡ revertedDfu g f
   end = mix-reverted (s .paged) (r .some-page)
 
-  pub turns : (ks : List ℕ) (k : ℕ) → FirstWhole g ks k (swapTable g f)
-      → Turns g ks k (swapTable g f) (f .active) (revertedDfu g f) (length (f .state))
-      (revertMarks (g .state) (pageCount g f) (length (f .state)))
+  turns : (ks : List ℕ) (k : ℕ) → FirstWhole g ks k (swapTable g f)
+      → ByLastCut g ks k (swapTable g f) (reverted g f) (λ u. revertedPart g u f)
+  unfolding reverted revertedPart revertImages closed
   turns = turns-back g f (r .marked) (revertedDfu g f) end
 
   -- the marks fill the state area
@@ -55,11 +55,9 @@ module _ (g : Geometry) (f : Flash) (r : Ready g f) where
   power =
       record {
         swaps = swaps g f (r .marked) (r .some-page);
-        reverts = λ ks k w o.
-            turned g ks k (swapTable g f) (f .active) (revertedDfu g f) (length (f .state)) _
-            (swapped-size g f (r .marked) (revertedDfu g f) end) (turns ks k w) o;
-        rests = λ ks k n w one most o.
-            rested g ks k (swapTable g f) (f .active) (revertedDfu g f) (length (f .state)) _ (turns ks k w) n one most o;
+        reverts-active = λ ks k w. either g ks k _ _ (λ (u : ℕ). revertedPart g u f) (λ (x : Flash). x .active ≡ f .active) refl (λ u. refl) (turns ks k w);
+        reverts-dfu = λ ks k w. either g ks k _ _ (λ (u : ℕ). revertedPart g u f) (λ (x : Flash). x .dfu ≡ reverted g f .dfu) refl (λ u. refl) (turns ks k w);
+        reverts = turns;
         erased-whole =
             ap (closed (f .active) (revertedDfu g f))
             (ap (λ (n : ℕ). blank n (revertMarks (g .state) (pageCount g f) (length (f .state)))) (s .units)

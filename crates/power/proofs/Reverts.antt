@@ -25,36 +25,34 @@ use Rattle.way.proofs.Tables.{Images, stageTable, revert-way}
 use Rattle.way.proofs.Images.{newDfu, mix-all-active}
 use Rattle.way.proofs.Sized.{Sized}
 use Rattle.way.proofs.Reverted.{Course, closing, erasedPart, copying, Turning, LastCut, revert-kept, revert-place, revert-done, gone-boot, gone-idle}
-use Rattle.power.specs.Power.{Marked, ran, Cut, runs, AllCut, FirstWhole, Short, InErase, Ends, Rests}
+use Rattle.power.specs.Power.{Marked, ran, Cut, runs, AllCut, FirstWhole, Short, InErase, Ends, Rests, ByLastCut}
 use Rattle.power.proofs.Runs.{Admits, ran-after, admits-ran, cut-short, whole-long, dearer, KeptAll, runs-left, ends-at, rests-at}
 use Rattle.power.proofs.Start.{markRoom, stateBytes, swappedActive, swappedDfu, tableAt, start-sized, start-images, end-table}
 
 -- the ways a revert ends, with the images A and R and n bytes of state that hold st when its erase begins: by the place of the last cut
-abbrev pub Turns : Geometry → List ℕ → ℕ → Flash → List ℕ → List ℕ → ℕ → List ℕ → Type 0
+abbrev Turns : Geometry → List ℕ → ℕ → Flash → List ℕ → List ℕ → ℕ → List ℕ → Type 0
 Turns g ks k f A R n st =
     (((r : ℕ) → 1 ≤ r → r ≤ n / g .state .es → Short r g ks f → ⊥) × Ends g ks k f Swap (closed A R (magicArea (g .state) Revert n)))
     ⊎ ((r : ℕ) × (1 ≤ r) × (r ≤ n / g .state .es) × Short r g ks f × Rests g ks k f (closed A R (blank ((n / g .state .es + 1 - r) * g .state .es) st)))
 
--- so many operations were left, and no other number
-short-same : (g : Geometry) (ks : List ℕ) (f : Flash) (r q : ℕ) → Short r g ks f → Short q g ks f → r ≡ q
-unfolding Short
-short-same g [] f r q x y = absurd x
-short-same g (k ∷ []) f r q x y = omega arith
-short-same g (k ∷ j ∷ ks) f r q x y = short-same g (j ∷ ks) (ran g k f) r q x y
+turned : (g : Geometry) (ks : List ℕ) (k : ℕ) (f : Flash) (A R : List ℕ) (n : ℕ) (st : List ℕ) → length (f .state) ≡ n → Turns g ks k f A R n st
+    → ByLastCut g ks k f (closed A R (magicArea (g .state) Revert n)) (λ u. closed A R (blank (u * g .state .es) st))
+unfolding InErase stateUnits
+turned g ks k f A R n st e (inl t) = inl (λ i. t .0 (i .0) (i .1) (rw (sym e) (i .2)) (i .3), t .1)
+turned g ks k f A R n st e (inr t) =
+    inr (
+      t .0,
+      t .1,
+      rw e (t .2),
+      t .3,
+      subst (λ (m : ℕ). Rests g ks k f (closed A R (blank ((m / g .state .es + 1 - t .0) * g .state .es) st))) (sym e) (t .4),
+    )
 
-module _ (g : Geometry) (ks : List ℕ) (k : ℕ) (f : Flash) (A R : List ℕ) (n : ℕ) (st : List ℕ) where
-  pub turned : length (f .state) ≡ n → Turns g ks k f A R n st → (InErase g ks f → ⊥)
-      → Ends g ks k f Swap (closed A R (magicArea (g .state) Revert n))
-  unfolding InErase stateUnits
-  turned e (inl t) o = t .1
-  turned e (inr t) o = absurd (o (t .0, t .1, rw e (t .2), t .3))
-
-  pub rested : Turns g ks k f A R n st → (r : ℕ) → 1 ≤ r → r ≤ n / g .state .es → Short r g ks f
-      → Rests g ks k f (closed A R (blank ((n / g .state .es + 1 - r) * g .state .es) st))
-  rested (inl t) r one most o = absurd (t .0 r one most o)
-  rested (inr t) r one most o =
-      subst (λ (q : ℕ). Rests g ks k f (closed A R (blank ((n / g .state .es + 1 - q) * g .state .es) st)))
-      (short-same g ks f (t .0) r (t .3) o) (t .4)
+-- what holds of both ends holds of the flash that is left
+pub either : (g : Geometry) (ks : List ℕ) (k : ℕ) (f whole : Flash) (part : ℕ → Flash) (P : Flash → Type 0) → P whole → ((u : ℕ) → P (part u))
+    → ByLastCut g ks k f whole part → P (ran g k (runs g ks f))
+either g ks k f whole part P p q (inl t) = subst P (sym (t .1 .flash)) p
+either g ks k f whole part P p q (inr t) = subst P (sym (t .4 .flash)) (q _)
 
 -- the steps of the way back, and its end, with the DFU image R
 abbrev pub stepsBack : Geometry → Flash → ℕ
@@ -160,10 +158,12 @@ module _ (g : Geometry) (f : Flash) (m : Marked g f) (R : List ℕ)
       next (inr e) = e .1
 
   pub turns-back : (ks : List ℕ) (k : ℕ) → FirstWhole g ks k (swapTable g f)
-      → Turns g ks k (swapTable g f) (f .active) R (length (f .state)) (revertMarks (g .state) N (length (f .state)))
+      → ByLastCut g ks k (swapTable g f) (closed (f .active) R (magicArea (g .state) Revert (length (f .state))))
+      (λ u. closed (f .active) R (blank (u * g .state .es) (revertMarks (g .state) N (length (f .state)))))
   turns-back ks k w =
-      subst (λ (n : ℕ). Turns g ks k (swapTable g f) (f .active) R n (revertMarks (g .state) N n)) (sym (s .state))
-      (go (place ks (swapTable g f) (suc (stepsBack g f)) admits-swapped (copying from-table) swap (w .cuts)))
+      turned g ks k (swapTable g f) (f .active) R (length (f .state)) _ swapped-size
+      (subst (λ (n : ℕ). Turns g ks k (swapTable g f) (f .active) R n (revertMarks (g .state) N n)) (sym (s .state))
+      (go (place ks (swapTable g f) (suc (stepsBack g f)) admits-swapped (copying from-table) swap (w .cuts))))
     where
       swap : readState (g .state) (swapTable g f .state) ≡ Swap
       swap = on-stage from-table .reads .swap

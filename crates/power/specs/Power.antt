@@ -2,6 +2,7 @@
 -- `rules`, a run is a call of prepare_boot with a budget, and no step is run here. Proved in proofs/Proved, and for N = 0 in
 -- proofs/NoPages. Assumes nothing.
 use mathlib.Core.Path.{_≡_}
+use mathlib.Core.Logic.{_⊎_}
 use mathlib.Core.Option.{some}
 use mathlib.Core.List.{List, [], _∷_}
 use Prim.Native.Nat.{ℕ, _+_, _-_, _*_, _≤_, _<_}
@@ -100,16 +101,25 @@ pub record Rests (g : Geometry) (ks : List Supply) (k : Supply) (f h : Flash) : 
   pub answers : answer g k (runs g ks f) ≡ record { number = 0; state = some Boot; count = 0 }
   pub flash : ran g k (runs g ks f) ≡ h
 
+-- the first run that is not cut, of a revert that is begun at the flash f: exactly one of two. The last cut fell outside the state's
+-- erase, and the run is done with the flash `whole`; or it left r operations of the erase and the magic, and the flash with the
+-- other units erased rests
+abbrev pub ByLastCut : Geometry → List Supply → Supply → Flash → Flash → (ℕ → Flash) → Type 0
+ByLastCut g ks k f whole part =
+    ((InErase g ks f → ⊥) × Ends g ks k f Swap whole)
+    ⊎ ((r : ℕ) × (1 ≤ r) × (r ≤ stateUnits g f) × Short r g ks f × Rests g ks k f (part (stateUnits g f + 1 - r)))
+
 -- from the flash f, freshly marked: cut anywhere, any number of times
 pub record Power (g : Geometry) (f : Flash) : Type 0 where
   -- the first run that is not cut leaves the swap table
   pub swaps : (ks : List Supply) (k : Supply) → FirstWhole g ks k f → Ends g ks k f Swap (swapTable g f)
-  -- from there the first run that is not cut leaves the revert's images, with the Revert magic
-  pub reverts : (ks : List Supply) (k : Supply) → FirstWhole g ks k (swapTable g f) → (InErase g ks (swapTable g f) → ⊥)
-      → Ends g ks k (swapTable g f) Swap (reverted g f)
-  -- or, if the last cut fell inside the state's erase or after it, with the units erased that were, and the rest as they were
-  pub rests : (ks : List Supply) (k : Supply) (r : ℕ) → FirstWhole g ks k (swapTable g f) → 1 ≤ r → r ≤ stateUnits g f → Short r g ks (swapTable g f)
-      → Rests g ks k (swapTable g f) (revertedPart g (stateUnits g f + 1 - r) f)
+  -- from there the first run that is not cut leaves the revert's images, whatever was cut
+  pub reverts-active : (ks : List Supply) (k : Supply) → FirstWhole g ks k (swapTable g f) → ran g k (runs g ks (swapTable g f)) .active ≡ f .active
+  pub reverts-dfu : (ks : List Supply) (k : Supply) → FirstWhole g ks k (swapTable g f)
+      → ran g k (runs g ks (swapTable g f)) .dfu ≡ reverted g f .dfu
+  -- with the Revert magic; or with the state's units erased that were, and the rest as they were: by the place of the last cut
+  pub reverts : (ks : List Supply) (k : Supply) → FirstWhole g ks k (swapTable g f)
+      → ByLastCut g ks k (swapTable g f) (reverted g f) (λ u. revertedPart g u f)
   -- which, after the whole of the erase, is a state area all erased
   pub erased-whole : revertedPart g (stateUnits g f) f ≡ revertedErased g f
   -- with the dearer step's cost at each run, the first that is not cut is at latest the 2N-th, and in the revert the (2N + 2)-th
@@ -146,7 +156,8 @@ restated st f = record { active = f .active; dfu = f .dfu; state = st }
 pub record NoPages (g : Geometry) (f : Flash) : Type 0 where
   pub swapped : swapTable g f ≡ f
   pub at-once : (k : Supply) → 2 + stateUnits g f ≤ count k → answer g k f ≡ record { number = 0; state = some Swap; count = 2 + stateUnits g f }
-  pub reverts : (ks : List Supply) (k : Supply) → FirstWhole g ks k f → (InErase g ks f → ⊥)
-      → Ends g ks k f Swap (restated (magicArea (g .state) Revert (length (f .state))) f)
-  pub rests : (ks : List Supply) (k : Supply) (r : ℕ) → FirstWhole g ks k f → 1 ≤ r → r ≤ stateUnits g f → Short r g ks f
-      → Rests g ks k f (restated (blank ((stateUnits g f + 1 - r) * g .state .es) (revertMarks (g .state) 0 (length (f .state)))) f)
+  pub reverts-active : (ks : List Supply) (k : Supply) → FirstWhole g ks k f → ran g k (runs g ks f) .active ≡ f .active
+  pub reverts-dfu : (ks : List Supply) (k : Supply) → FirstWhole g ks k f → ran g k (runs g ks f) .dfu ≡ f .dfu
+  pub reverts : (ks : List Supply) (k : Supply) → FirstWhole g ks k f
+      → ByLastCut g ks k f (restated (magicArea (g .state) Revert (length (f .state))) f)
+      (λ u. restated (blank (u * g .state .es) (revertMarks (g .state) 0 (length (f .state)))) f)

@@ -1,11 +1,10 @@
 -- Demand 3 of the boots made (specs/Cycles): by the theorem `power` alone. Assumes nothing.
-use mathlib.Core.Path.{_≡_, refl, sym, ap, _∙_, subst}
+use mathlib.Core.Path.{_≡_, ap, _∙_, subst}
 use mathlib.Core.Logic.{_⊎_, inl, inr}
 use mathlib.Core.Option.{some}
 use mathlib.Core.List.{List, [], _∷_}
 use Prim.Native.Nat.{ℕ, zero, suc, _+_, _-_, _*_, _/_, _≤_, _<_}
 use native.Mathlib.Nat.{div-mul-le-self, mul-le-mul-right}
-use native.Mathlib.Decide.{decLe}
 use native.Mathlib.Omega.{arith}
 use lib.ListN.{length, take, length-append, length-replicate}
 use lib.Seq.{length-take-le}
@@ -19,9 +18,8 @@ use Rattle.mem_flash.specs.Flash.{Flash}
 use Rattle.rules.specs.declared.Answer.{Answer}
 use Rattle.rules.specs.Steps.{pageCount}
 use Rattle.rules.specs.Calls.{Report, reported}
-use Rattle.rules.specs.Boot.{prepareBoot}
-use Rattle.rules.specs.Power.{swapMarks, swapTable, revertImages, reverted, revertedPart, stateUnits, dearerCost}
-use Rattle.power.specs.Power.{Ready, ran, AllCut, Short, InErase, AllAtLeast, Power}
+use Rattle.rules.specs.Power.{swapMarks, swapTable, reverted, revertedPart, stateUnits, dearerCost}
+use Rattle.power.specs.Power.{Ready, AllCut, AllAtLeast, ByLastCut}
 use Rattle.power.proofs.Proved.{power}
 use Rattle.power_cycles.specs.Cycles.{Uncut, Made, SwapOf, Reverted, AtLatest, Cycles}
 use Rattle.power_cycles.proofs.Made.{all-cut, First, found}
@@ -54,24 +52,6 @@ soon {g} {ks} {f} {n = n} {r} m few made stops many =
 
 -- ---- the revert
 
--- whether the last cut left at least 1 and at most u operations
-AtMost : ℕ → Geometry → List ℕ → Flash → Type 0
-AtMost u g ks f = (r : ℕ) × (1 ≤ r) × (r ≤ u) × Short r g ks f
-
-at-most : (u : ℕ) (g : Geometry) (ks : List ℕ) (f : Flash) → Dec (AtMost u g ks f)
-unfolding AtMost Short
-at-most u g [] f = no (λ s. s .3)
-at-most u g (k ∷ []) f = go (decLe (k + 1) n) (decLe n (k + u))
-  where
-    n : ℕ
-    n = length (prepareBoot g f .ops)
-
-    go : Dec (k + 1 ≤ n) → Dec (n ≤ k + u) → Dec ((r : ℕ) × (1 ≤ r) × (r ≤ u) × (k + r ≡ n))
-    go (yes a) (yes b) = yes (n - k, omega arith, omega arith, omega arith)
-    go (no a) b = no (λ s. a (omega (arith, s .1, s .3)))
-    go (yes a) (no b) = no (λ s. b (omega (arith, s .2, s .3)))
-at-most u g (k ∷ j ∷ ks) f = at-most u g (j ∷ ks) (ran g k f)
-
 -- the swap table's state area is as long as before
 marks-length : (z : StateSizes) (count n : ℕ) → (2 + 2 * count) * z .ws ≤ n → length (swapMarks z count n) ≡ n
 unfolding swapMarks
@@ -88,34 +68,29 @@ module _ (g : Geometry) (f : Flash) (ready : Ready g f) where
       ap (λ (n : ℕ). n / g .state .es)
       (marks-length (g .state) N (length (f .state)) (omega (arith, enough, div-mul-le-self (length (f .state)) w)))
 
-  p : Power g f
-  p = power g f ready
-
-  module _ {f′ : Flash} {r : Answer} (l : First g (swapTable g f) f′ r) where
-    images : {h : Flash} → f′ ≡ h → h .active ≡ f .active → h .dfu ≡ reverted g f .dfu
+  module _ {js : List ℕ} {f′ : Flash} {r : Answer} (l : First g js (swapTable g f) f′ r) where
+    ended : ByLastCut g js (l .last) (swapTable g f) (reverted g f) (λ u. revertedPart g u f)
         → ((f′ .state ≡ reverted g f .state) × (reported r .state ≡ some Swap))
         ⊎ ((u : ℕ) × (1 ≤ u) × (u ≤ stateUnits g f) × (f′ .state ≡ revertedPart g u f .state) × (reported r .state ≡ some Boot))
-        → Reverted g f f′ r
-    images e a d s =
-        record { active = ap (λ (x : Flash). x .active) e ∙ a; dfu = ap (λ (x : Flash). x .dfu) e ∙ d; state = s }
+    ended (inl e) =
+        inl (ap (λ (x : Flash). x .state) (l .leaves ∙ e .1 .flash), ap (λ (t : Report). t .state) (l .told) ∙ e .1 .state)
+    ended (inr e) =
+        inr (
+          stateUnits g (swapTable g f) + 1 - e .0,
+          omega (arith, e .2),
+          omega (arith, e .1, same-units),
+          ap (λ (x : Flash). x .state) (l .leaves ∙ e .4 .flash),
+          ap (λ (t : Report). t .state) (l .told ∙ e .4 .answers),
+        )
 
-    reverts-at : Dec (AtMost (stateUnits g f) g (l .cut) (swapTable g f)) → Reverted g f f′ r
-    unfolding AtMost InErase reverted revertedPart revertImages
-    reverts-at (yes s) =
-        let e = p .rests _ _ (s .0) (l .first) (s .1) (s .2) (s .3) in
-        let left = l .leaves ∙ e .flash in
-        images left refl refl
-        (inr (
-          stateUnits g f + 1 - s .0,
-          omega (arith, s .2),
-          omega (arith, s .1),
-          ap (λ (x : Flash). x .state) left,
-          ap (λ (t : Report). t .state) (l .told ∙ e .answers),
-        ))
-    reverts-at (no s) =
-        let e = p .reverts _ _ (l .first) (λ i. s (i .0, i .1, rw (sym same-units) (i .2), i .3)) in
-        let left = l .leaves ∙ e .flash in
-        images left refl refl (inl (ap (λ (x : Flash). x .state) left, ap (λ (t : Report). t .state) (l .told) ∙ e .state))
+    reverts-at : Reverted g f f′ r
+    reverts-at =
+        let p = power g f ready in
+        record {
+          active = ap (λ (x : Flash). x .active) (l .leaves) ∙ p .reverts-active _ _ (l .first);
+          dfu = ap (λ (x : Flash). x .dfu) (l .leaves) ∙ p .reverts-dfu _ _ (l .first);
+          state = ended (p .reverts _ _ (l .first));
+        }
 
 -- ---- all of it
 
@@ -129,9 +104,7 @@ cycles {g} {ks} {f} {f′} {n} {r} made stops =
           let l = found made w in
           let e = power g f ready .swaps _ _ (l .first) in
           (l .leaves ∙ e .flash, ap (λ (t : Report). t .state) (l .told) ∙ e .state);
-      reverts = λ f₀ s w.
-          let l = found (from s) w in
-          reverts-at g f₀ (s .ready) l (at-most (stateUnits g f₀) g (l .cut) (swapTable g f₀));
+      reverts = λ f₀ s w. reverts-at g f₀ (s .ready) (found (from s) w);
       swap-soon = λ ready. soon (2 * pageCount g f) (power g f ready .swap-soon) made stops;
       revert-soon = λ f₀ s. soon (2 * pageCount g f₀ + 2) (power g f₀ (s .ready) .revert-soon) (from s) stops;
     }

@@ -86,26 +86,26 @@ all-cut {g} {ks} {f} {n = suc n} m c =
     subst (λ (js : List ℕ). AllCut g js f) (sym (take-suc ks n 0 (omega (arith, m .budgets))))
     (cuts-more g (take n ks) (getD ks n 0) f (l .cuts) (sym (ap (λ (t : Report). t .number) (l .told)) ∙ c))
 
--- where it is not, the last is the first that was not
-pub record First (g : Geometry) (f f′ : Flash) (r : Answer) : Type 0 where
-  pub cut : List ℕ
+-- where it is not, the last is the first that was not, behind cuts with the budgets js
+pub record First (g : Geometry) (js : List ℕ) (f f′ : Flash) (r : Answer) : Type 0 where
   pub last : ℕ
-  pub first : FirstWhole g cut last f
-  pub told : reported r ≡ answer g last (runs g cut f)
-  pub leaves : f′ ≡ ran g last (runs g cut f)
+  pub first : FirstWhole g js last f
+  pub told : reported r ≡ answer g last (runs g js f)
+  pub leaves : f′ ≡ ran g last (runs g js f)
 
-pub found : {g : Geometry} {ks : List ℕ} {f f′ : Flash} {n : ℕ} {r : Answer} → Made g ks f f′ n r → Uncut r → First g f f′ r
+pub found : {g : Geometry} {ks : List ℕ} {f f′ : Flash} {n : ℕ} {r : Answer} → Made g ks f f′ n r → Uncut r
+    → First g (take (n - 1) ks) f f′ r
 unfolding Cut reported
 found {n = zero} m w = absurd (w (ap (λ (t : Report). t .number) (made-none m)))
-found {ks = ks} {n = suc n} m w =
+found {g} {ks} {f} {f′} {n = suc n} {r = r} m w =
     let l = made-last n m in
-    record {
-      cut = take n ks;
+    subst (λ (i : ℕ). First g (take i ks) f f′ r) (sym (before n))
+    (record {
       last = getD ks n 0;
       first = record { cuts = l .cuts; whole = λ c. w (ap (λ (t : Report). t .number) (l .told) ∙ c) };
       told = l .told;
       leaves = l .leaves;
-    }
+    })
 
 -- ---- the code
 
