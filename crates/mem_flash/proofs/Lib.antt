@@ -5,3 +5,4 @@ pub mod After
 pub mod Stretches
 pub mod Chunks
 pub mod Erases
+pub mod StateOnly

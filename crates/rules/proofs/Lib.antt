@@ -8,3 +8,4 @@ pub mod Pages
 pub mod Spread
 pub mod MarkedArea
 pub mod MarkWritten
+pub mod Marks

@@ -1,0 +1,44 @@
+-- Operations on the state area alone: they leave the images as they were, and what they leave of the state area does not depend on the
+-- images. So what is known of a run with any images is known with all. Assumes nothing.
+use mathlib.Core.Path.{_≡_, refl}
+use mathlib.Core.List.{List, [], _∷_, _++_}
+use Prim.Native.Nat.{ℕ, zero, suc, _+_, _/_}
+use lib.ListN.{take}
+use Rattle.mem_flash.specs.Flash.{state, Op, erase, write, change, apply, applyAll, after, unitOps, eraseOps}
+use Rattle.mem_flash.specs.Run.{flash}
+
+pub data OnState : List Op → Type 0 where
+  nothing : OnState []
+  erases : {from n : ℕ} {os : List Op} → OnState os → OnState (erase state from n ∷ os)
+  writes : {at : ℕ} {bs : List ℕ} {os : List Op} → OnState os → OnState (write state at bs ∷ os)
+
+pub on-append : {os ps : List Op} → OnState os → OnState ps → OnState (os ++ ps)
+on-append nothing q = q
+on-append (erases p) q = erases (on-append p q)
+on-append (writes p) q = writes (on-append p q)
+
+on-units : (n unit from : ℕ) → OnState (unitOps n unit state from)
+unfolding unitOps
+on-units zero unit from = nothing
+on-units (suc n) unit from = erases (on-units n unit (from + unit))
+
+pub on-erase : (unit from n : ℕ) → OnState (eraseOps unit state from n)
+unfolding eraseOps
+on-erase unit from n = on-units (n / unit) unit from
+
+on-take : (k : ℕ) {os : List Op} → OnState os → OnState (take k os)
+on-take zero p = nothing
+on-take (suc k) nothing = nothing
+on-take (suc k) (erases p) = erases (on-take k p)
+on-take (suc k) (writes p) = writes (on-take k p)
+
+alone : {os : List Op} → OnState os → (a d b e st : List ℕ) → applyAll os (flash b e st) ≡ flash b e (applyAll os (flash a d st) .state)
+unfolding applyAll apply change
+alone nothing a d b e st = refl
+alone (erases p) a d b e st = alone p a d b e _
+alone (writes p) a d b e st = alone p a d b e _
+
+pub after-alone : (k : ℕ) {os : List Op} → OnState os → (a d b e st : List ℕ)
+    → after k os (flash b e st) ≡ flash b e (after k os (flash a d st) .state)
+unfolding after
+after-alone k p a d b e st = alone (on-take k p) a d b e st
