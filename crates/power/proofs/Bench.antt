@@ -113,6 +113,6 @@ unconfirmed =
       swapped = swapped;
       cut = cut-one;
       confirms =
-          confirmed (sizes 16) (swapTable (sizes 16) (fresh 15)) swapped confirmation firmware-state 1 cut-one;
+          confirmed (sizes 16) (swapTable (sizes 16) (fresh 15)) swapped confirmation (firmware-state _ refl) 1 cut-one;
       booted = refl;
     }

@@ -1,7 +1,7 @@
 -- A confirmation that was cut (specs/Confirm): `confirmed`. Its state area is that of a finished swap, invalid, with so many units
 -- erased: with none a boot finishes the erase and writes the Boot magic, with some it reads Boot. One lemma for one run, then any
 -- number of them. Assumes nothing.
-use mathlib.Core.Path.{_≡_, refl, sym, ap, ap₂, _∙_, subst}
+use mathlib.Core.Path.{_≡_, sym, ap, ap₂, _∙_, subst}
 use mathlib.Core.Bool.{Bool, true}
 use mathlib.Core.Option.{some}
 use mathlib.Core.Logic.{_⊎_, inl, inr}
@@ -30,10 +30,10 @@ use Rattle.rules.specs.Power.{swapMarks, stateUnits, voidMarks}
 use Rattle.rules.proofs.Spread.{spread, length-spread, boot-reads, area-reads, blank-boot}
 use Rattle.rules.proofs.MarkedArea.{markWords, length-marks, reads-swap, done-marks, marks-valid, marks-void, not-booted, confirming-swapped, void-written, swapped-marks, void-marks}
 use Rattle.rules.proofs.Endings.{state-rows, updater-rows, ending, is-cut, left-admitted}
-use Rattle.way.proofs.Finish.{closed, renew-count, renewed, renew-part, void-part}
+use Rattle.way.proofs.Finish.{closed, renew-count, renewed, renew-part, void-first}
 use Rattle.way.proofs.Sized.{Sized, sized}
 use Rattle.way.proofs.Wanted.{wants-none, wants-renewal}
-use Rattle.power.specs.Power.{answer, ran, runs, AllCut}
+use Rattle.power.specs.Power.{answer, ran, runs, AllCut, FirstWhole}
 use Rattle.power.specs.Confirm.{Swapped, firmware-state, updater, CutConfirmation, confirmedPart, confirmedWhole, unitsErased, Confirms, Confirming}
 use Rattle.power.proofs.Runs.{Admits, ran-after, admits-after, admits-ran, cut-short, whole-long, answer-done}
 
@@ -244,8 +244,21 @@ module _ (g : Geometry) (f : Flash) (s : Swapped g f) where
             let c = all-cut ks u x o (w .cuts) in
             let r = rest (runs g ks x) j (unitsErased u ks) (c .admits) (c .same) one (c .most) in
             record { reached = c .same; answers = r .0; flash = r .1 };
+        settles = λ ks j w. behind ks j w (decLe 1 (unitsErased u ks));
       }
     where
+      behind : (ks : List ℕ) (j : ℕ) → FirstWhole g ks j x → Dec (1 ≤ unitsErased u ks) → readState (g .state) (ran g j (runs g ks x) .state) ≡ Boot
+      behind ks j w (yes one) =
+          let c = all-cut ks u x o (w .cuts) in
+          reads-at _ _ (rest (runs g ks x) j (unitsErased u ks) (c .admits) (c .same) one (c .most) .1) ∙ part-boot (unitsErased u ks) one (c .most)
+      behind ks j w (no none) =
+          let c = all-cut ks u x o (w .cuts) in
+          let e : unitsErased u ks ≡ 0 = omega (arith, lt-of-not-le none) in
+          reads-at _ _
+          (finish (runs g ks x) j (c .admits) (c .same ∙ ap (λ (i : ℕ). confirmedPart g i f) e ∙ part-none)
+          (whole-long g j (runs g ks x) (c .admits) (w .whole)) .1)
+          ∙ whole-boot
+
       at : (ks : List ℕ) → Midway (runs g ks x)
       at ks = all-kept ks x (o .admits) (part u (o .most) (o .same))
 
@@ -278,15 +291,17 @@ module _ (g : Geometry) (f : Flash) (s : Swapped g f) where
           same =
               leaves
               ∙ ap₂ (λ (i : ℕ) (os : List Op). after i os f) e (ops ∙ mark-wants)
-              ∙ void-part (f .active) (f .dfu) (g .state) S (magic Boot) (k - 1) (f .state) most
+              ∙ void-first (f .active) (f .dfu) (g .state) S (magic Boot) (k - 1) (f .state)
+              ∙ renew-part (f .active) (f .dfu) (g .state) S (magic Boot) (k - 1) _ most
               ∙ ap (λ (st : List ℕ). closed (f .active) (f .dfu) (blank ((k - 1) * g .state .es) st)) invalid-is;
           admits = subst (Admits g) (sym leaves) (admits-after g k f (s .admitted) (c .ops));
         }
 
 pub confirmed : (g : Geometry) (f : Flash) → Confirming g f
 unfolding mark updaterCall updaterMark updaterMarkBooted
-confirmed g f s c firmware-state k h =
-    confirms g f s (left c k f) (k - 1) (confirm-cut g f s c (state-rows (g .state) _) refl k h)
+confirmed g f s c (firmware-state z e) k h =
+    confirms g f s (left c k f) (k - 1)
+    (confirm-cut g f s c (state-rows z _) (ap (λ (y : StateSizes). setMagicOps y (magic Boot) (f .state)) e) k h)
 confirmed g f s c (updater z e) k h =
     confirms g f s (left c k f) (k - 1)
     (confirm-cut g f s c (updater-rows z _ _ _ _)

@@ -14,5 +14,4 @@ pub mod Inside
 pub mod Settled
 pub mod Marking
 pub mod Confirmed
-pub mod Carried
 pub mod Bench

@@ -9,6 +9,7 @@ use lib.ListN.{length}
 use Rattle.state.specs.declared.State.the-variants.{Boot, Swap, Revert}
 use Rattle.geometry.specs.declared.Geometry.{Geometry}
 use Rattle.geometry.specs.declared.Sizes.{Sizes}
+use Rattle.geometry.specs.declared.StateSizes.{StateSizes}
 use Rattle.geometry.specs.Refusals.{bootRefusal}
 use Rattle.mem_flash.specs.Flash.{Flash, blank, Supply, count}
 use Rattle.rules.specs.StateArea.{readState}
@@ -27,7 +28,7 @@ pub record Swapped (g : Geometry) (f : Flash) : Type 0 where
 
 -- the two calls that confirm an image, with the geometry's numbers of the state area
 pub data MarkBooted (g : Geometry) (f : Flash) : Call → Type 0 where
-  firmware-state : MarkBooted g f (mark Boot (g .state) (f .state))
+  firmware-state : (z : StateSizes) → z ≡ g .state → MarkBooted g f (mark Boot z (f .state))
   updater : (z : Sizes) → z .state ≡ g .state → MarkBooted g f (updaterMarkBooted z f)
 
 -- such a call with a budget of k is cut, after its invalidation
@@ -66,6 +67,8 @@ pub record Confirms (g : Geometry) (f : Flash) (u : ℕ) (x : Flash) : Type 0 wh
       × (ran g j (runs g ks x) ≡ confirmedWhole g f)
   -- else it reads Boot, and does nothing
   pub rests : (ks : List Supply) (j : Supply) → FirstWhole g ks j x → 1 ≤ unitsErased u ks → Rests g ks j x (confirmedPart g (unitsErased u ks) f)
+  -- and behind it the state area reads Boot, in which no boot does anything
+  pub settles : (ks : List Supply) (j : Supply) → FirstWhole g ks j x → readState (g .state) (ran g j (runs g ks x) .state) ≡ Boot
 
 abbrev pub Confirming : Geometry → Flash → Type 0
 Confirming g f = Swapped g f → (c : Call) → MarkBooted g f c → (k : Supply) → CutConfirmation c k → Confirms g f (count k - 1) (left c k f)

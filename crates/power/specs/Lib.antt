@@ -6,5 +6,4 @@ pub mod Pages
 pub mod Inside
 pub mod Settles
 pub mod Marking
-pub mod Carried
 pub mod Confirm

@@ -61,10 +61,14 @@ same {g} {ks} {f} {q = q} {r} e a b = (
   answer-unique q r (a .told ∙ ap (λ (i : ℕ). lastAnswer g (take i ks) f) e ∙ sym (b .told)),
 )
 
+-- count, areas and answer
+pub cycles-unique : {g : Geometry} {ks : List ℕ} {f f₁ f₂ : Flash} {m n : ℕ} {q r : Answer} → Cycles g ks f f₁ m q → Cycles g ks f f₂ n r
+    → (m ≡ n) × (f₁ ≡ f₂) × (q ≡ r)
+cycles-unique a b = let n = same-count a b in let e = same n (a .made) (b .made) in (n, e .0, e .1)
+
 pub boot-until-whole-unique : OneResult kinds.ps kinds.r boot-until-whole.Post
 boot-until-whole-unique κs a x y v w p q =
-    let n = same-count p q in
-    let e = same n (p .made) (q .made) in (
-      ap₂ (λ (m : ℕ) (r : Answer). record { runs = m; answer = r }) n (e .1),
-      ap (λ (f : Flash). (tt, (f .active, (f .dfu, (f .state, (tt, tt)))))) (e .0),
+    let e = cycles-unique p q in (
+      ap₂ (λ (m : ℕ) (r : Answer). record { runs = m; answer = r }) (e .0) (e .2),
+      ap (λ (f : Flash). (tt, (f .active, (f .dfu, (f .state, (tt, tt)))))) (e .1),
     )

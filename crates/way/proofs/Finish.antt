@@ -105,7 +105,7 @@ module _ (A R : List ℕ) where
       ∙ after-between (eraseOps (z .es) state 0 n) (magicOp z m ∷ []) (closed A R st)
       ∙ erase-units (z .es) state 0 n st (closed A R st)
 
-  -- so, with j operations: the first j units
+  -- so, with j operations: the first j units. Here alone the two cuts are joined
   pub renew-part : (z : StateSizes) (n m j : ℕ) (st : List ℕ) → j ≤ n / z .es
       → after j (renewOps z n m) (closed A R st) ≡ closed A R (blank (j * z .es) st)
   renew-part z n m j st h = go (eq-or-lt-of-le h)
@@ -114,17 +114,9 @@ module _ (A R : List ℕ) where
       go (inl e) = rw e (renew-unsigned z n m st)
       go (inr l) = renew-erasing z n m j st l
 
-  -- and with the invalidation first, invalid
-  pub void-part : (z : StateSizes) (n m j : ℕ) (st : List ℕ) → j ≤ n / z .es
+  -- with the invalidation first: the rest on an area that is invalid, cut wherever it is
+  pub void-first : (z : StateSizes) (n m j : ℕ) (st : List ℕ)
       → after (suc j) (invalidateOp z ∷ renewOps z n m) (closed A R st)
-      ≡ closed A R (blank (j * z .es) (writtenAt (z .ws) (replicate (z .ws) marked) st))
-  void-part z n m j st h =
-      after-next j (invalidateOp z) (renewOps z n m) (closed A R st)
-      ∙ ap (after j (renewOps z n m)) (closed-void z st)
-      ∙ renew-part z n m j (writtenAt (z .ws) (replicate (z .ws) marked) st) h
-
-  pub close-part : (g : Geometry) (n j : ℕ) (st : List ℕ) → j ≤ n / g .state .es
-      → after (suc j) (closeOps g n) (closed A R st)
-      ≡ closed A R (blank (j * g .state .es) (writtenAt (g .state .ws) (replicate (g .state .ws) marked) st))
-  unfolding closeOps
-  close-part g n j st h = void-part (g .state) n (magic Revert) j st h
+      ≡ after j (renewOps z n m) (closed A R (writtenAt (z .ws) (replicate (z .ws) marked) st))
+  void-first z n m j st =
+      after-next j (invalidateOp z) (renewOps z n m) (closed A R st) ∙ ap (after j (renewOps z n m)) (closed-void z st)

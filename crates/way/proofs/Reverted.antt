@@ -10,7 +10,7 @@ use native.Mathlib.Decide.{decLe}
 use native.Mathlib.Omega.{arith}
 use lib.ListN.{length, length-append}
 use Rattle.state.specs.declared.State.the-variants.{Boot, Swap, Revert}
-use Rattle.state.specs.Magic.{erased, marked}
+use Rattle.state.specs.Magic.{erased, marked, magic}
 use Rattle.geometry.specs.declared.Geometry.{Geometry}
 use Rattle.geometry.specs.Geometry.{page, pages}
 use Rattle.mem_flash.specs.Flash.{Flash, Op, blank, applyAll, after}
@@ -21,7 +21,7 @@ use Rattle.rules.specs.Boot.{bootOps}
 use Rattle.rules.specs.Power.{magicArea, nextCost}
 use Rattle.rules.proofs.Spread.{spread, length-spread, blank-boot}
 use Rattle.rules.proofs.MarkedArea.{markWords, length-marks, reads-swap, done-marks, progress-void, confirming-reverted, void-written}
-use Rattle.way.proofs.Finish.{closed, closeOps, close-count, finish-close, finished, close-part}
+use Rattle.way.proofs.Finish.{closed, closeOps, close-count, finish-close, finished, renew-part, void-first}
 use Rattle.way.proofs.Steps.{Whole}
 use Rattle.way.proofs.Way.{Reads, Way, OnWay, Stage, on-stage, on-end, Went, through, stopped, run-on, copies-skip, Kept}
 use Rattle.way.proofs.Tables.{revert-count}
@@ -138,9 +138,10 @@ module _ {g : Geometry} {N t : ℕ} {A R : List ℕ} {f₀ : Flash} (course : Co
 
   -- the last operations, from a validity word that holds v: cut after the invalidation and j units, and whole
   close-gone : (v j : ℕ) → j ≤ U → after (suc j) (closeOps g S) (closing g A R t (4 * N) v) ≡ gone j
-  unfolding closing erasedPart
+  unfolding closing closeOps erasedPart
   close-gone v j less =
-      close-part A R g S j (spread (g .state .ws) (markWords v (4 * N) (t - 4 * N))) less
+      void-first A R (g .state) S (magic Revert) j (spread (g .state .ws) (markWords v (4 * N) (t - 4 * N)))
+      ∙ renew-part A R (g .state) S (magic Revert) j _ less
       ∙ ap (λ (l : List ℕ). closed A R (blank (j * g .state .es) l)) (void-written (g .state .ws) v (4 * N) (t - 4 * N))
 
   gone-none : gone 0 ≡ void
