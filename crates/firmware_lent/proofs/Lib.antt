@@ -2,3 +2,4 @@ pub mod Thin
 pub mod Returned
 pub mod Frame
 pub mod Marks
+pub mod Unique

@@ -3,3 +3,4 @@ pub mod Writes
 pub mod Loop
 pub mod Ranges
 pub mod Verdicts
+pub mod Unique

@@ -1,5 +1,5 @@
 -- Any two results that a contract of the updater allows for one input are equal: answer, areas, output buffer and record. It is said
--- of the calls by value; the lent ones cite the same relations, and their contracts are compared with these by reading. Assumes nothing.
+-- of the calls by value; of the lent ones in firmware_lent. Assumes nothing.
 use mathlib.Core.Path.{refl, sym, ap, ap₂, _∙_}
 use mathlib.Core.List.{List}
 use Prim.Native.Nat.{ℕ}

@@ -6,3 +6,4 @@ pub mod Stretches
 pub mod Chunks
 pub mod Erases
 pub mod StateOnly
+pub mod Unique

@@ -6,20 +6,15 @@ use Prim.Native.Nat.{ℕ}
 use lib.Dec.{eqb}
 use Rattle.state.specs.declared.State.{State}
 use Rattle.state.specs.Choice.{pick}
-use Rattle.geometry.specs.declared.Refusal.{Refusal}
 use Rattle.geometry.specs.declared.Refusal.the-variants.{Limit, Page, Area, StateArea, BadState, Range}
 use Rattle.geometry.specs.Refusals.{number}
+use Rattle.geometry.proofs.Unique.{refusalOf}
 use Rattle.mem_flash.specs.Flash.{Flash}
 use Rattle.rules.specs.declared.Answer.{Answer}
 use Rattle.rules.specs.declared.Answer.the-variants.{Found, Done, Refused, Cut}
 use Rattle.rules.specs.Calls.{Report, Call, reported, Did}
 
--- what a report says can be read back: the refusal of a number, and the answer of a report
-refusalOf : ℕ → Refusal
-refusalOf n =
-    pick (eqb n 1) Limit
-    (pick (eqb n 2) Page (pick (eqb n 3) Area (pick (eqb n 4) StateArea (pick (eqb n 5) BadState Range))))
-
+-- what a report says can be read back
 doneOf : Option State → ℕ → Answer
 doneOf (some s) n = Found s n
 doneOf none n = Done n
