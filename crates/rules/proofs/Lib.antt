@@ -3,9 +3,12 @@ pub mod StateWords
 pub mod Unique
 pub mod Did
 pub mod Tables
+pub mod Tasks
+pub mod Numbered
 pub mod Endings
 pub mod Pages
 pub mod Spread
 pub mod MarkedArea
 pub mod MarkWritten
 pub mod Marks
+pub mod Remembered

@@ -4,7 +4,8 @@ use mathlib.Core.Path.{_≡_, refl, sym, ap, _∙_}
 use mathlib.Core.Bool.{Bool, true, false}
 use mathlib.Core.List.{List, [], _∷_}
 use Prim.Native.Nat.{ℕ, zero, suc, _+_, _-_, _*_, _/_, _≤_, _<_}
-use native.Mathlib.Nat.{le-of-suc-le-suc, not-suc-le-zero, mul-le-mul-right, div-mul-le-self}
+use native.Mathlib.Numerals.{add-one}
+use native.Mathlib.Nat.{sub-zero, le-of-suc-le-suc, not-suc-le-zero, mul-le-mul-right, div-mul-le-self}
 use native.Mathlib.Decide.{decLt}
 use native.Mathlib.Omega.{arith}
 use lib.ListN.{length, take, drop, replicate, length-drop}
@@ -17,7 +18,7 @@ use Rattle.mem_flash.specs.Flash.{program, writtenAt}
 use Rattle.mem_flash.proofs.Bytes.{programmed-marked, marked-not-erased}
 use Rattle.mem_flash.proofs.Stretches.{length-written}
 use Rattle.rules.specs.StateArea.{word, readState, valid, markOpen, mostMarks, firstOpen, marksDone, progress}
-use Rattle.rules.proofs.StateWords.{progress-valid, progress-invalid}
+use Rattle.rules.proofs.StateWords.{open-turn, progress-valid, progress-invalid}
 use Rattle.rules.proofs.Spread.{holds-other}
 
 -- the bytes before a write are as they were
@@ -70,6 +71,16 @@ passes z st (suc n) i j h d =
     go true e rest (no l) = omega arith
     go false e rest l = rest
 
+-- it is nowhere before the mark from which it is searched, and marks that are done can be left out of the search
+pub open-after : (z : StateSizes) (st : List ℕ) (n i : ℕ) → i ≤ firstOpen z st n i
+open-after z st n i = passes z st n i i (omega arith) (λ q l h. absurd (omega arith))
+
+opens-on : (z : StateSizes) (st : List ℕ) (most j : ℕ) → j ≤ most → ((q : ℕ) → q < j → markOpen z st q ≡ false)
+    → firstOpen z st most 0 ≡ firstOpen z st (most - j) j
+opens-on z st most zero h d = sym (rw sub-zero)
+opens-on z st most (suc j) h d =
+    opens-on z st most j (omega arith) (λ q l. d q (omega arith)) ∙ (rw add-one at (sym (open-turn z most j st (omega arith) (d j (omega arith)))))
+
 -- ---- a mark written
 
 unfoldable pub withMark : StateSizes → ℕ → List ℕ → List ℕ
@@ -117,21 +128,33 @@ module _ (z : StateSizes) (i : ℕ) (st : List ℕ) where
     unfolding mostMarks
     same-most = ap (λ (n : ℕ). words (z .ws) n - 3) same-length
 
-    -- the progress passes the mark
-    pub mark-passes : progress z st ≡ i → i < progress z (withMark z i st)
-    unfolding marksDone
-    mark-passes e = go (valid z st) refl
-      where
-        below : firstOpen z st (mostMarks z st) 0 ≡ i → (q : ℕ) → 0 ≤ q → q < suc i → markOpen z (withMark z i st) q ≡ false
-        below f q o l = which (decLt q i)
-          where
-            which : Dec (q < i) → markOpen z (withMark z i st) q ≡ false
-            which (yes m) = same-open q m ∙ passed z st (mostMarks z st) 0 q o (rw f m)
-            which (no m) = let y : q ≡ i = omega arith in rw y own-done
+    module _ (e : progress z st ≡ i) where
+      -- the step was the progress, so its marks count and those before it are done
+      counts : valid z st ≡ true
+      counts = go (valid z st) refl
+        where
+          go : (b : Bool) → valid z st ≡ b → valid z st ≡ true
+          go true v = v
+          go false v = absurd (omega (arith, here, e, progress-invalid z st v))
 
-        go : (b : Bool) → valid z st ≡ b → i < progress z (withMark z i st)
-        go true v =
-            let f : firstOpen z st (mostMarks z st) 0 ≡ i = sym (progress-valid z st v) ∙ e in
-            rw (progress-valid z (withMark z i st) (same-valid ∙ v), same-most)
-            (passes z (withMark z i st) (mostMarks z st) 0 (suc i) (omega (arith, here)) (below f))
-        go false v = absurd (omega (arith, here, e, progress-invalid z st v))
+      below : (q : ℕ) → q < suc i → markOpen z (withMark z i st) q ≡ false
+      unfolding marksDone
+      below q l = which (decLt q i)
+        where
+          f : firstOpen z st (mostMarks z st) 0 ≡ i
+          f = sym (progress-valid z st counts) ∙ e
+
+          which : Dec (q < i) → markOpen z (withMark z i st) q ≡ false
+          which (yes m) = same-open q m ∙ passed z st (mostMarks z st) 0 q (omega arith) (rw f m)
+          which (no m) = let y : q ≡ i = omega arith in rw y own-done
+
+      -- behind a step that was marked, the progress read afresh is the first open mark from the next one on
+      pub progress-on : progress z (withMark z i st) ≡ firstOpen z (withMark z i st) (mostMarks z (withMark z i st) - (i + 1)) (i + 1)
+      unfolding marksDone
+      progress-on =
+          progress-valid z (withMark z i st) (same-valid ∙ counts)
+          ∙ opens-on z (withMark z i st) (mostMarks z (withMark z i st)) (i + 1) (omega (arith, here, same-most)) (λ q l. below q (omega arith))
+
+      -- and it passes the mark
+      pub mark-passes : i < progress z (withMark z i st)
+      mark-passes = rw progress-on (omega (arith, open-after z (withMark z i st) (mostMarks z (withMark z i st) - (i + 1)) (i + 1)))

@@ -16,6 +16,8 @@ use Rattle.mem_flash.specs.Flash.{state, Flash, Op, eraseOps}
 use Rattle.rules.specs.StateArea.{readState, valid, marksDone, progress, invalidateOp, magicOp}
 use Rattle.rules.specs.Steps.{pageCount, swapOps, revertOps}
 use Rattle.rules.specs.Calls.{Call}
+use Rattle.rules.specs.declared.Task.{Task}
+use Rattle.rules.specs.declared.Task.the-variants as tasks
 
 -- the whole state area, of n bytes, erased and a magic written
 unfoldable pub renewOps : StateSizes → ℕ → ℕ → List Op
@@ -45,6 +47,22 @@ bootOpsIn Swap g f =
     (swapOrRevertOps g f)
 bootOpsIn Revert g f = []
 bootOpsIn DfuDetach g f = []
+
+-- the same in two: what there is to do, by the state area alone, with n pages; and the operations of it
+unfoldable pub task : State → StateSizes → ℕ → List ℕ → Task
+task Boot z n st = tasks.Nothing
+task Swap z n st =
+    pick (confirming z n st)
+    tasks.Confirm
+    (pick (ltb (progress z st) (2 * n)) (tasks.Swap (progress z st)) (tasks.Revert (progress z st)))
+task Revert z n st = tasks.Nothing
+task DfuDetach z n st = tasks.Nothing
+
+unfoldable pub taskOps : Task → Geometry → Flash → List Op
+taskOps tasks.Nothing g f = []
+taskOps tasks.Confirm g f = renewOps (g .state) (length (f .state)) (magic Boot)
+taskOps (tasks.Swap i) g f = swapOps g f
+taskOps (tasks.Revert i) g f = revertOps g f ++ finishOps g f
 
 unfoldable pub bootOps : Geometry → Flash → List Op
 bootOps g f = bootOpsIn (readState (g .state) (f .state)) g f

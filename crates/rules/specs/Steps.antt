@@ -2,7 +2,7 @@
 use mathlib.Core.List.{List, [], _∷_, _++_}
 use Prim.Native.Nat.{ℕ, zero, suc, _+_, _*_, _/_}
 use lib.Dec.{leb}
-use lib.ListN.{length, take, drop}
+use lib.ListN.{length, getD, take, drop}
 use Rattle.state.specs.Choice.{pick}
 use Rattle.geometry.specs.declared.Geometry.{Geometry}
 use Rattle.geometry.specs.Geometry.{page, pages}
@@ -39,6 +39,13 @@ swapSteps n = swapFrom n 0
 
 unfoldable pub revertSteps : ℕ → List Copy
 revertSteps n = revertFrom n 0 (2 * n)
+
+-- all steps of n pages, each at its number, and step i
+unfoldable pub allSteps : ℕ → List Copy
+allSteps n = swapSteps n ++ revertSteps n
+
+unfoldable pub stepAt : ℕ → ℕ → Copy
+stepAt n i = getD (allSteps n) i (toDfu 0 0 0)
 
 -- where a copy's bytes come from, and how large an erase unit of its target is
 unfoldable pub sourceOf : Area → Flash → List ℕ

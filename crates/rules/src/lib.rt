@@ -19,3 +19,12 @@ pub enum Sector {
     None,
     At(usize),
 }
+
+// What a boot has to do. A swap and a revert go on from a step, the first that is not done.
+pub enum Task {
+    Nothing,
+    // A confirmation that was cut is finished.
+    Confirm,
+    Swap(usize),
+    Revert(usize),
+}

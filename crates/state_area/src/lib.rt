@@ -1,13 +1,14 @@
 // What the boot loader and the firmware state both do with the state area, lines that the Rust writes in both files; and the search for
 // the progress, which the loader alone asks for.
-// A word that an area does not have whole is what there is of it, so nothing is asked of the caller.
+// A word that an area does not have whole is what there is of it, so nothing is asked of the caller; but where the search is to begin
+// there must be a mark.
 ghost use mathlib.Core.Path.{_≡_};
-ghost use Prim.Native.Nat.{_-_, _*_, _≤_, _<_};
+ghost use Prim.Native.Nat.{_+_, _-_, _*_, _≤_, _<_};
 ghost use lib.ListN.{length};
 ghost use Rattle.state.specs.Magic.{throughout};
 ghost use Rattle.geometry.specs.Geometry.{words};
 ghost use Rattle.state_area.specs.Area.{Invalidated, Renewed};
-ghost use Rattle.rules.specs.StateArea.{word, readState, valid, marksDone, progress};
+ghost use Rattle.rules.specs.StateArea.{word, readState, valid, mostMarks, firstOpen, marksDone, progress};
 use geometry::Offset;
 use geometry::StateSizes;
 use geometry::Word;
@@ -77,20 +78,21 @@ fn most_marks(n: usize, z: StateSizes) -> usize
     t - geometry::least(t, 3)
 }
 
-// The first open mark among those that are read, or how many these are. A mark is open while it holds an erased byte, so the first
-// erased byte of them all, wherever in its word it stands, is in the first open mark: one search serves words of every size.
-fn first_open(state: &[u8], z: StateSizes) -> usize
-    requires { ⌜ (0 < z .ws) × (4 * z .ws ≤ length (now state)) ⌝ }
-    ensures { λ r. ⌜ r ≡ marksDone z (now (state .entry)) ⌝ }
+// The first open mark from one on among those that are read, or how many these are. A mark is open while it holds an erased byte, so
+// the first erased byte from there on, wherever in its word it stands, is in the first open mark: one search serves words of every
+// size.
+pub fn first_open(state: &[u8], z: StateSizes, from: usize) -> usize
+    requires { ⌜ (0 < z .ws) × ((3 + from) * z .ws ≤ length (now state)) ⌝ }
+    ensures { λ r. ⌜ r ≡ firstOpen z (now (state .entry)) (mostMarks z (now (state .entry)) - from) from ⌝ }
 {
     let ws = z.ws as usize;
-    let start = 2 * ws;
-    // Where nothing is done yet there is nothing to search.
+    let start = (2 + from) * ws;
+    // Where the mark itself is open there is nothing to search.
     if state[start] == State::ERASE_VALUE {
-        return 0;
+        return from;
     }
-    let end = start + most_marks(state.len(), z) * ws;
-    byte_search::first(&state[start..end], State::ERASE_VALUE) / ws
+    let end = (2 + most_marks(state.len(), z)) * ws;
+    from + byte_search::first(&state[start..end], State::ERASE_VALUE) / ws
 }
 
 // The leading done marks, whether they count or not.
@@ -105,7 +107,7 @@ pub fn marks_done(state: &[u8], z: StateSizes) -> usize
     if state.len() / 4 < ws {
         return 0;
     }
-    first_open(state, z)
+    first_open(state, z, 0)
 }
 
 // The first step that is not done, as the marks say it; where they do not count, as many as are read.

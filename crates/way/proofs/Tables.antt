@@ -17,6 +17,7 @@ use Rattle.mem_flash.proofs.Stretches.{bytes-take, bytes-drop, bytes-append}
 use Rattle.mem_flash.proofs.Areas.{flash-path}
 use Rattle.rules.specs.Steps.{Copy, toDfu, toActive, swapFrom, revertFrom, sourceOf, pageCount}
 use Rattle.rules.specs.Power.{pageAt, withPage, stepTo}
+pub use Rattle.rules.proofs.Numbered.{swap-count, revert-count}
 use Rattle.rules.proofs.Pages.{mix, pages-le, length-mix, page-mix-left, page-mix-right, mix-up, mix-down}
 use Rattle.rules.proofs.Spread.{spread, length-spread}
 use Rattle.rules.proofs.MarkedArea.{markWords, length-marks, reads-swap, marks-valid, progress-marks, confirming-counted, mark-next}
@@ -42,16 +43,6 @@ revert-steps j k i =
     let b : i + 1 ≡ suc i = omega arith in
     let c : i + 2 ≡ suc (suc i) = omega arith in
     rw (a, b, c)
-
-pub swap-count : (k i : ℕ) → length (swapFrom k i) ≡ 2 * k
-unfolding swapFrom
-swap-count zero i = refl
-swap-count (suc k) i = omega (arith, swap-count k (i + 2))
-
-pub revert-count : (j k i : ℕ) → length (revertFrom j k i) ≡ 2 * j
-unfolding revertFrom
-revert-count zero k i = refl
-revert-count (suc j) k i = omega (arith, revert-count j (k + 1) (i + 2))
 
 -- steps on the images, numbered from i on
 abbrev pub StepRow : ℕ → List Copy → Type 0

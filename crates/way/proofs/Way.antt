@@ -9,9 +9,7 @@ use native.Mathlib.Nat.{lt-of-not-le}
 use native.Mathlib.Decide.{decLe}
 use native.Mathlib.Omega.{arith}
 use lib.ListN.{length, length-append}
-use borrow.Author.Tests.{le-leb, lt-leb}
 use Rattle.state.specs.declared.State.the-variants.{Swap}
-use Rattle.state.specs.Choice.{pick}
 use Rattle.geometry.specs.declared.Geometry.{Geometry}
 use Rattle.geometry.specs.Geometry.{page, pages}
 use Rattle.mem_flash.specs.Flash.{Flash, Op, applyAll, after}
@@ -19,9 +17,11 @@ use Rattle.mem_flash.specs.Areas.{Image}
 use Rattle.mem_flash.proofs.After.{apply-append, after-within, after-past}
 use Rattle.mem_flash.proofs.Areas.{state-placed, active-placed}
 use Rattle.rules.specs.StateArea.{readState, progress}
-use Rattle.rules.specs.Steps.{Copy, copyOps, onceOps, copiesOps, pageCount}
+use Rattle.rules.specs.Steps.{Copy, copyOps, copiesOps, pageCount}
 use Rattle.rules.specs.Boot.{confirming}
 use Rattle.rules.specs.Power.{stepTo, nextCost}
+pub use Rattle.rules.proofs.Tables.{once-skip, once-do, copies-skip}
+use Rattle.rules.proofs.Tables.{copies-do}
 use Rattle.way.proofs.Steps.{Whole, Fits, Near, near-refl, stepped, step-whole, step-cut-near}
 use Rattle.way.proofs.Costs.{next-count}
 
@@ -114,24 +114,6 @@ pub data Went (g : Geometry) (N S : ℕ) (h : Flash) (m : ℕ) (cs : List Copy) 
       → OnWay g N S h (after k os now) m cs rest → Went g N S h m cs r now k os
 
 -- a step that is done already is passed over, and any other is done
-pub once-skip : (g : Geometry) (c : Copy) (f : Flash) → c .mark < progress (g .state) (f .state) → onceOps g c f ≡ []
-unfolding onceOps pick
-once-skip g c f h = rw (lt-leb (progress (g .state) (f .state)) (c .mark) h)
-
-pub once-do : (g : Geometry) (c : Copy) (f : Flash) → progress (g .state) (f .state) ≤ c .mark → onceOps g c f ≡ copyOps g c f
-unfolding onceOps pick
-once-do g c f h = rw (le-leb (progress (g .state) (f .state)) (c .mark) h)
-
-pub copies-skip : (g : Geometry) (c : Copy) (cs : List Copy) (f : Flash) → c .mark < progress (g .state) (f .state)
-    → copiesOps g (c ∷ cs) f ≡ copiesOps g cs f
-unfolding copiesOps applyAll
-copies-skip g c cs f h = ap (λ (os : List Op). os ++ copiesOps g cs (applyAll os f)) (once-skip g c f h)
-
-copies-do : (g : Geometry) (c : Copy) (cs : List Copy) (f : Flash) → progress (g .state) (f .state) ≤ c .mark
-    → copiesOps g (c ∷ cs) f ≡ copyOps g c f ++ copiesOps g cs (applyAll (copyOps g c f) f)
-unfolding copiesOps
-copies-do g c cs f h = ap (λ (os : List Op). os ++ copiesOps g cs (applyAll os f)) (once-do g c f h)
-
 went-there : {g : Geometry} {N S m r k : ℕ} {h now : Flash} {c : Copy} {cs : List Copy} {os : List Op}
     → c .mark ≡ m → Went g N S h (suc m) cs r now k os → Went g N S h m (c ∷ cs) r now k os
 went-there e (through l d still) = through l d still
