@@ -1,16 +1,9 @@
 -- Laws of a boot: the call's answer at each way out. `prepare_boot` cites them. Assumes nothing.
-use mathlib.Core.Path.{_≡_, refl, ap, sym}
-use mathlib.Core.Logic.{⊎-elim}
+use mathlib.Core.Path.{_≡_, ap, sym}
 use mathlib.Core.Option.{some}
-use mathlib.Core.List.{[], _∷_}
 use Prim.Native.Nat.{ℕ, _-_}
-use native.Mathlib.Omega.{arith}
 use lib.ListN.{length}
-use types.Run.{OneOf}
-use denote.Enum.Declared.{tagOf}
-use Rattle.state.proofs.State.{the-type}
 use Rattle.state.specs.declared.State.{State}
-use Rattle.state.specs.declared.State.the-variants.{Boot, Swap, Revert, DfuDetach}
 use Rattle.geometry.specs.declared.Geometry.{Geometry}
 use Rattle.geometry.specs.declared.Refusal.{Refusal}
 use Rattle.geometry.specs.declared.Verdict.{Verdict}
@@ -27,7 +20,7 @@ use Rattle.rules.specs.declared.Answer.the-variants as answers
 use Rattle.rules.specs.StateArea.{readState}
 use Rattle.rules.specs.Calls.{Did}
 use Rattle.rules.specs.Boot.{bootOpsIn, bootOps, prepareBoot}
-use Rattle.rules.proofs.Did.{verdict-admitted, did-refused, did-nothing, did-cut, did-find}
+use Rattle.rules.proofs.Did.{verdict-admitted, did-refused, did-cut, did-find}
 
 -- a boot that is not refused, in state s, has run
 pub record Booted (g : Geometry) (k : ℕ) (f : Flash) (s : State) (f₁ : Flash) (r : Flow) : Type 0 where
@@ -48,13 +41,9 @@ module _ (g : Geometry) (f : Flash) {v : Verdict} (judged : verdict v ≡ bootRe
     boot-admits = admitted g _ _ _ not-refused
 
     module _ {s : State} (found : s ≡ readState (g .state) (f .state)) where
-      pub boot-idle : {k : ℕ} → bootOpsIn s g f ≡ [] → Did (prepareBoot g f) k f f (answers.Found s 0)
-      unfolding prepareBoot bootOps
-      boot-idle {k} e = did-nothing (prepareBoot g f) k f not-refused s (ap some (sym found)) (rw (← found) e)
-
-      pub booted : {t : State} {k : ℕ} {f₁ : Flash} {r : Flow} → s ≡ t → Ran k (bootOpsIn t g f) f f₁ r → Booted g k f s f₁ r
+      pub booted : {k : ℕ} {f₁ : Flash} {r : Flow} → Ran k (bootOpsIn s g f) f f₁ r → Booted g k f s f₁ r
       unfolding bootOps
-      booted same w = record { admitted = not-refused; found = found; ran = rw (← found, same) w }
+      booted w = record { admitted = not-refused; found = found; ran = rw (← found) w }
 
 module _ {g : Geometry} {k : ℕ} {f : Flash} {s : State} {f₁ : Flash} {r : Flow} (w : Booted g k f s f₁ r) where
   pub boot-cut : r ≡ Cut → Did (prepareBoot g f) k f f₁ (answers.Cut k)
@@ -64,11 +53,3 @@ module _ {g : Geometry} {k : ℕ} {f : Flash} {s : State} {f₁ : Flash} {r : Fl
   pub boot-found : {l : Budget} → r ≡ On l → Did (prepareBoot g f) k f f₁ (answers.Found s (k - l .0))
   unfolding prepareBoot
   boot-found {l} p = did-find (prepareBoot g f) k f (w .admitted) f₁ r (w .ran) l p s (ap some (sym (w .found)))
-
--- only Swap acts; the match tells of every other state by its place in the enum
-pub idle : (s : State) (g : Geometry) (f : Flash) → OneOf (0 ∷ 2 ∷ 3 ∷ []) (tagOf the-type s) → bootOpsIn s g f ≡ []
-unfolding bootOpsIn
-idle Boot g f o = refl
-idle Swap g f o = absurd (⊎-elim (λ e. omega (arith, e)) (λ p. ⊎-elim (λ e. omega (arith, e)) (λ e. omega (arith, e)) p) o)
-idle Revert g f o = refl
-idle DfuDetach g f o = refl

@@ -9,7 +9,6 @@ use geometry::Verdict;
 use mem_flash::Budget;
 use mem_flash::Flow;
 use rules::Answer;
-use state::State;
 
 // The boot loader is its geometry: the Rust's holds the three flashes too, which are lent here.
 pub struct BootLoader {
@@ -41,10 +40,7 @@ impl BootLoader {
             return Answer::Refused(why);
         }
         let found = state_area::read(state, g.state);
-        let State::Swap = found else {
-            return Answer::Found(found, 0);
-        };
-        let Flow::On(rest) = boot_choice::confirm_or_copy(g, active, dfu, state, Budget(budget))
+        let Flow::On(rest) = boot_choice::perform(found, g, active, dfu, state, Budget(budget))
         else {
             return Answer::Cut(budget);
         };

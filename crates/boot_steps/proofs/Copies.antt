@@ -1,53 +1,68 @@
--- Laws of a step, in either direction: not run, or the page filled and then its mark. The two page copies cite them. Assumes
+-- Laws of one step: its mark; the page filled and then the mark, on whichever image; and that this is the step of the plan. Assumes
 -- nothing.
-use mathlib.Core.Path.{_≡_, _∙_}
+use mathlib.Core.Path.{_≡_, _∙_, sym}
 use mathlib.Core.List.{List, [], _∷_}
-use Prim.Native.Nat.{ℕ, _*_, _≤_, _<_}
-use borrow.Author.Tests.{le-leb, lt-leb}
-use Rattle.state.specs.Choice.{pick}
+use Prim.Native.Nat.{ℕ, _*_}
+use lib.ListN.{replicate}
+use Rattle.state.specs.Magic.{marked}
 use Rattle.geometry.specs.declared.Geometry.{Geometry}
+use Rattle.geometry.specs.declared.StateSizes.{StateSizes}
 use Rattle.geometry.specs.Geometry.{page}
 use Rattle.mem_flash.specs.declared.Budget.{Budget}
 use Rattle.mem_flash.specs.declared.Flow.{Flow}
 use Rattle.mem_flash.specs.declared.Flow.the-variants.{On, Cut}
-use Rattle.mem_flash.specs.Flash.{Flash, Op}
-use Rattle.mem_flash.specs.Run.{flash, on, ended, run, Ran, placed, InArea}
+use Rattle.mem_flash.specs.Flash.{Area, active, dfu, state, Flash, Op, change}
+use Rattle.mem_flash.specs.Run.{flash, ended, run, Ran, placed, InArea, writeOps}
+use Rattle.mem_flash.specs.Areas.{Image}
 use Rattle.mem_flash.proofs.Runs.{then-on, then-cut, ran}
-use Rattle.rules.specs.StateArea.{progress, markOp}
-use Rattle.rules.specs.Steps.{Copy, sourceOf, unitOf, fillOps, copyOps, onceOps}
+use Rattle.rules.specs.StateArea.{markOp}
+use Rattle.rules.specs.Steps.{Copy, sourceOf, unitOf, fillOps, copyOps}
 use Rattle.state_area.specs.Area.{InState}
+use Rattle.boot_plan.specs.declared.Direction.the-variants.{ToActive, ToDfu}
+use Rattle.boot_plan.specs.declared.PageCopy.{PageCopy}
+use Rattle.boot_plan.specs.Says.{Says, toward}
+use Rattle.boot_steps.specs.Step.{Marked, Stepped}
 
--- the page of a step
-pub fills : Geometry → Copy → Flash → ℕ → List Op
-fills g c f p = fillOps (unitOf g (c .to)) p (g .b) (c .target * p) (c .source * p) (sourceOf (c .to) f) (c .to)
+-- the code writes a mark over its word
+pub marks : (k : ℕ) (z : StateSizes) (w at : ℕ) (st st′ : List ℕ) (r : Flow) → at ≡ w * z .ws
+    → InArea k (writeOps at (replicate (z .ws) 0x00)) st st′ r → Marked k z w st st′ r
+unfolding markOp marked placed change
+marks k z w at st st′ r e v i o a d = rw (← o, ← e) (v state (flash a d st))
 
--- a step that is to run has filled its page, or was cut there
-pub record Filled (g : Geometry) (c : Copy) (f : Flash) (k : ℕ) (f₁ : Flash) (r : Flow) : Type 0 where
-  pub runs : progress (g .state) (f .state) ≤ c .mark
-  pub page : run k (fills g c f (page g)) f ≡ ended f₁ r
+-- ---- the page, then the mark
 
--- the page by its size and its places as the code found them
-pub filled : (g : Geometry) (c : Copy) (f : Flash) (k : ℕ) {m p at off : ℕ} {r : Flow} (xs xs₁ : List ℕ) → m ≡ progress (g .state) (f .state) → m ≤ c .mark
-    → p ≡ page g → at ≡ c .target * p → off ≡ c .source * p → placed (c .to) xs f ≡ f
-    → InArea k (fillOps (unitOf g (c .to)) p (g .b) at off (sourceOf (c .to) f)) xs xs₁ r → Filled g c f k (placed (c .to) xs₁ f) r
-unfolding fills
-filled g c f k xs xs₁ read h e x y there w =
-    record { runs = rw read at h; page = rw there at (rw e at (rw (x, y) at (w (c .to) f))) }
+-- what the mark does is the same whichever image was written
+marked-beside : (a : Area) → Image a → (k : ℕ) (ops : List Op) (xs st st′ : List ℕ) (r : Flow) → InState k ops st st′ r
+    → (f : Flash) → run k ops (placed a xs (placed state st f)) ≡ ended (placed a xs (placed state st′ f)) r
+unfolding placed change
+marked-beside active i k ops xs st st′ r w f = w xs (f .dfu)
+marked-beside dfu i k ops xs st st′ r w f = w (f .active) xs
+marked-beside state i k ops xs st st′ r w f = absurd i
 
--- ---- the three ways out of a step
+module _ (k : ℕ) (g : Geometry) (unit : ℕ) (c : PageCopy) (src xs xs₁ st : List ℕ) (r : Flow)
+    (w : InArea k (fillOps unit (page g) (g .b) (c .to .0 * page g) (c .from .0 * page g) src) xs xs₁ r) where
+  pub step-cut : r ≡ Cut → Stepped k g unit c src xs xs₁ st st Cut
+  step-cut o a i f m e = then-cut k _ (markOp (g .state) m ∷ []) _ _ r (w a (placed state st f)) o
 
-pub once-skipped : (g : Geometry) (c : Copy) (f : Flash) (k : ℕ) {m : ℕ} → m ≡ progress (g .state) (f .state) → c .mark < m → Ran k (onceOps g c f) f f (on k)
-unfolding onceOps pick run
-once-skipped g c f k read h = let z = rw read at h in ran _ _ _ _ _ (rw (lt-leb _ _ z))
+  pub step-on : (l : Budget) (st′ : List ℕ) (q : Flow) → r ≡ On l → Marked (l .0) (g .state) (c .mark .0) st st′ q
+      → Stepped k g unit c src xs xs₁ st st′ q
+  step-on l st′ q o v a i f m e =
+      then-on k _ (markOp (g .state) m ∷ []) _ _ r (w a (placed state st f)) l o
+      ∙ marked-beside a i (l .0) (markOp (g .state) m ∷ []) xs₁ st st′ q (v m e) f
 
-module _ {g : Geometry} {c : Copy} {f : Flash} {k : ℕ} {f₁ : Flash} {r : Flow} (w : Filled g c f k f₁ r) where
-  pub once-cut : r ≡ Cut → Ran k (onceOps g c f) f f₁ Cut
-  unfolding onceOps pick copyOps fills
-  once-cut o = ran _ _ _ _ _ (rw (le-leb _ _ (w .runs)) (then-cut k (fills g c f (page g)) _ f f₁ r (w .page) o))
+-- ---- the step of the plan
 
-  pub once-on : {l : Budget} {Y : List ℕ} {q : Flow} → r ≡ On l → InState (l .0) (markOp (g .state) (c .mark) ∷ []) (f₁ .state) Y q
-      → Ran k (onceOps g c f) f (flash (f₁ .active) (f₁ .dfu) Y) q
-  unfolding onceOps pick copyOps fills
-  once-on {l} o v =
-      ran _ _ _ _ _
-      (rw (le-leb _ _ (w .runs)) (then-on k (fills g c f (page g)) _ f f₁ r (w .page) l o ∙ v (f₁ .active) (f₁ .dfu)))
+module _ (g : Geometry) (k : ℕ) (A D S S′ : List ℕ) (r : Flow) {c : PageCopy} {s : Copy} (y : Says c s) where
+  pub ran-to-dfu : (D′ : List ℕ) → c .direction ≡ ToDfu → Stepped k g (g .ed) c A D D′ S S′ r
+      → Ran k (copyOps g s (flash A D S)) (flash A D S) (flash A D′ S′) r
+  unfolding copyOps toward sourceOf unitOf placed change
+  ran-to-dfu D′ d w =
+      let e : s .to ≡ dfu = sym (y .to) ∙ (rw d) in
+      rw (e, ← y .source, ← y .target) (ran _ _ _ _ _ (w dfu tt (flash A D S) (s .mark) (y .mark)))
+
+  pub ran-to-active : (A′ : List ℕ) → c .direction ≡ ToActive → Stepped k g (g .ea) c D A A′ S S′ r
+      → Ran k (copyOps g s (flash A D S)) (flash A D S) (flash A′ D S′) r
+  unfolding copyOps toward sourceOf unitOf placed change
+  ran-to-active A′ d w =
+      let e : s .to ≡ active = sym (y .to) ∙ (rw d) in
+      rw (e, ← y .source, ← y .target) (ran _ _ _ _ _ (w active tt (flash A D S) (s .mark) (y .mark)))

@@ -1,5 +1,3 @@
-pub mod Progress
-pub mod Room
 pub mod Copies
-pub mod Steps
-pub mod Turns
+pub mod Room
+pub mod Going

@@ -2,9 +2,11 @@
 -- it. `copy_chunks` and `copy_page` cite them. Assumes nothing.
 use mathlib.Core.Path.{_≡_}
 use mathlib.Core.List.{List}
-use Prim.Native.Nat.{ℕ, _+_, _-_, _/_, _≤_, _<_}
+use Prim.Native.Nat.{ℕ, _+_, _-_, _*_, _/_, _≤_, _<_}
 use native.Mathlib.Omega.{arith}
 use lib.ListN.{take, drop}
+use Rattle.geometry.specs.declared.Geometry.{Geometry}
+use Rattle.geometry.specs.Geometry.{page}
 use Rattle.mem_flash.specs.declared.Budget.{Budget}
 use Rattle.mem_flash.specs.declared.Flow.{Flow}
 use Rattle.mem_flash.specs.declared.Flow.the-variants.{On, Cut}
@@ -12,6 +14,7 @@ use Rattle.mem_flash.specs.Flash.{Area, Flash, eraseOps}
 use Rattle.mem_flash.specs.Run.{on, ended, run, placed, InArea, writeOps}
 use Rattle.mem_flash.proofs.Runs.{then-on, then-cut, one-more, area-on, area-cut}
 use Rattle.rules.specs.Steps.{chunkOps, fillOps}
+use Rattle.page_copy.specs.Room.{Room}
 
 -- ---- the chunks
 
@@ -40,17 +43,30 @@ chunk-end k at from b count i src xs h a f =
     let e : count - i ≡ 0 = omega arith in
     rw e
 
--- ---- a page: the erase, then the chunks
+-- ---- a page: its places, by its size and its offset as the code found them, then the erase and the chunks
 
-module _ (k unit to from p b : ℕ) (src xs xs₁ : List ℕ) (r : Flow) (w : InArea k (λ a. eraseOps unit a to (to + p - to)) xs xs₁ r) where
-  wiped : InArea k (λ a. eraseOps unit a to p) xs xs₁ r
-  wiped = let e : to + p - to ≡ p = omega arith in rw e at w
+module _ {g : Geometry} {from m to n p : ℕ} (w : Room g from m to n) (e : p ≡ page g) where
+  pub source-in : from * p + p ≤ m
+  source-in = rw e (w .source)
 
-  pub fill-cut : r ≡ Cut → InArea k (fillOps unit p b to from src) xs xs₁ Cut
+  pub target-in : to * p + p ≤ n
+  target-in = rw e (w .target)
+
+  pub chunks-in : {at off l : ℕ} → at ≡ to * p → off ≡ from * p → l ≡ n → (at + p / g .b * g .b ≤ l) × (off + p / g .b * g .b ≤ m)
+  chunks-in x y z = let c : p / g .b * g .b ≡ p = rw e (w .chunks) in (omega (arith, target-in), omega (arith, source-in))
+
+module _ (g : Geometry) (k unit to from : ℕ) (src xs xs₁ : List ℕ) (r : Flow) {p at : ℕ} (e : p ≡ page g) (x : at ≡ to * p)
+    (w : InArea k (λ a. eraseOps unit a at (at + p - at)) xs xs₁ r) where
+  wiped : InArea k (λ a. eraseOps unit a (to * page g) (page g)) xs xs₁ r
+  wiped = let d : at + p - at ≡ p = omega arith in rw e at (rw x at (rw d at w))
+
+  pub fill-cut : r ≡ Cut → InArea k (fillOps unit (page g) (g .b) (to * page g) (from * page g) src) xs xs₁ Cut
   unfolding fillOps
-  fill-cut o = area-cut k _ xs xs₁ r wiped (λ a. chunkOps (p / b) a to from b src) o
+  fill-cut o = area-cut k _ xs xs₁ r wiped (λ a. chunkOps (page g / g .b) a (to * page g) (from * page g) (g .b) src) o
 
-  pub fill-on : (l : Budget) (xs₂ : List ℕ) (q : Flow) → r ≡ On l → InArea (l .0) (λ a. chunkOps (p / b) a to from b src) xs₁ xs₂ q
-      → InArea k (fillOps unit p b to from src) xs xs₂ q
+  pub fill-on : {l : Budget} {off : ℕ} (xs₂ : List ℕ) (q : Flow) → r ≡ On l → off ≡ from * p
+      → InArea (l .0) (λ a. chunkOps (p / g .b) a at off (g .b) src) xs₁ xs₂ q
+      → InArea k (fillOps unit (page g) (g .b) (to * page g) (from * page g) src) xs xs₂ q
   unfolding fillOps
-  fill-on l xs₂ q o v = area-on k _ xs xs₁ r wiped (λ a. chunkOps (p / b) a to from b src) l xs₂ q o v
+  fill-on {l} xs₂ q o y v =
+      area-on k _ xs xs₁ r wiped (λ a. chunkOps (page g / g .b) a (to * page g) (from * page g) (g .b) src) l xs₂ q o (rw e at (rw (x, y) at v))

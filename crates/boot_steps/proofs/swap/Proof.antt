@@ -1,187 +1,50 @@
-use mathlib.Core.Path.{_∙_}
-use Prim.Native.Nat.{_-_}
 use native.Mathlib.Omega.{arith}
-use borrow.Author.Count.{falls}
-use borrow.Author.Needs.{needs}
+use Rattle.geometry.specs.Geometry.{pages}
 use Rattle.geometry.proofs.Tests.{page-some}
-use Rattle.mem_flash.specs.Run.{flash}
-use Rattle.rules.specs.Steps.{swapOps}
-use Rattle.boot_steps.proofs.Steps.{Going, swapPlan, swap-next, swap-last, swap-whole, going-start, going-end, going-cut, going-cut2, going-turn}
-use Rattle.boot_steps.proofs.Room.{room-dfu}
-use Rattle.boot_steps.proofs.Turns.{low, swap-room-active}
+use Rattle.boot_steps.proofs.Room.{steps-few}
+use Rattle.boot_steps.proofs.Going.{swap-whole}
 use Rattle.boot_steps.proofs.swap.Statement.{statement}
 use Rattle.boot_steps.proofs.swap.Tie as tie
 
-abbrev Inv-loop : tie.InvT-loop
-Inv-loop g active₀ dfu₀ state₀ page-count page-num₀ still₀ active dfu state page-num still =
-    Going g (swapPlan page-count) (swapOps g (flash active₀ dfu₀ state₀)) page-count still₀ (flash active₀ dfu₀ state₀) page-num still
-    (flash active dfu state)
-
-abbrev μ-loop : tie.MeasureT-loop
-μ-loop g active₀ dfu₀ state₀ page-count page-num₀ still₀ active dfu state page-num still = page-count - page-num
-
--- from a turn's first step back to the turn's start, and from its second step to the first
-abbrev turn : tie.After-copy-page-once-to-dfu Inv-loop μ-loop → tie.In-loop Inv-loop μ-loop
-turn d = d .before .before .before .before
-
-abbrev first : tie.After-copy-page-once-to-active Inv-loop μ-loop → tie.After-copy-page-once-to-dfu Inv-loop μ-loop
-first a = a .before .before .before .before .before .before .before .before .before .before .before
-
-page-size-requires : tie.Need-page-size-requires Inv-loop μ-loop
+page-size-requires : tie.Need-page-size-requires
 page-size-requires c κs = tt
 
-div-page-count : tie.Need-div-page-count Inv-loop μ-loop
-div-page-count c = omega (arith, page-some (c .before .before .before .before .pre .numbers))
+div-page-count : tie.Need-div-page-count
+div-page-count c = omega (arith, page-some (c .before .before .before .before .pre .0 .numbers))
 
-loop-holds : tie.Need-loop-holds Inv-loop μ-loop
-loop-holds c =
-    let e = c .page-size .ensures in
-    going-start _ _ _ _ e (c .before .before .before .before .pre) (swap-whole _ _ e)
+mul-steps : tie.Need-mul-steps
+mul-steps c = record { fits = omega (arith, steps-few (c .before .before .before .before .before .before .before .pre .0) (c .before .before .before .page-size .ensures)) }
 
-mul-index : tie.Need-mul-index Inv-loop μ-loop
-mul-index c = low (c .before .loop .inv) (c .loop-test .taken) .swap-dfu
+steps-requires : tie.Need-steps-requires
+unfolding pages
+steps-requires c κs =
+    let p = c .before .before .before .before .before .before .before .pre in
+    (p .0, p .1, rw (c .before .before .before .page-size .ensures) (omega arith))
 
-sub-k : tie.Need-sub-k Inv-loop μ-loop
-sub-k c = search needs
+same-length : tie.Need-same-length
+same-length c = c .before .before .before .before .before .before .steps .kept .1 .0
 
-sub-k-2 : tie.Need-sub-k-2 Inv-loop μ-loop
-sub-k-2 c = search needs
+same-length-2 : tie.Need-same-length-2
+same-length-2 c = c .before .before .before .before .before .before .steps .kept .1 .1 .0
 
-add-copy-page-once-to-active : tie.Need-add-copy-page-once-to-active Inv-loop μ-loop
-add-copy-page-once-to-active c =
-    let t = c .before .before .before in
-    record { fits = omega (arith, t .before .loop .inv .few, t .loop-test .taken) }
+same-length-3 : tie.Need-same-length-3
+same-length-3 c = c .before .before .before .before .before .before .steps .kept .1 .1 .1 .0
 
-copy-page-once-to-dfu-requires : tie.Need-copy-page-once-to-dfu-requires Inv-loop μ-loop
-copy-page-once-to-dfu-requires c κs =
-    let t = c .before .before .before in
-    let i = t .before .loop .inv in
-    let h = t .loop-test .taken in
-    room-dfu (i .admitted) (i .count) (omega (arith, h)) (omega (arith, h)) (omega (arith, h))
-
-enum-known-half : tie.Need-enum-known-half Inv-loop μ-loop
-enum-known-half c = c .match .keys1
-
-enum-told : tie.Need-enum-told Inv-loop μ-loop
-enum-told c = c .match .keys2
-
-same-length : tie.Need-same-length Inv-loop μ-loop
-same-length c = turn (c .before .before .before .before .before .before) .before .loop .inv .active
-
-same-length-2 : tie.Need-same-length-2 Inv-loop μ-loop
-same-length-2 c = let d = c .before .before .before .before .before .before in d .copy-page-once-to-dfu .kept .1 .1 .0 ∙ turn d .before .loop .inv .dfu
-
-same-length-3 : tie.Need-same-length-3 Inv-loop μ-loop
-same-length-3 c = let d = c .before .before .before .before .before .before in d .copy-page-once-to-dfu .kept .1 .1 .1 .0 ∙ turn d .before .loop .inv .state
-
-returns : tie.Need-returns Inv-loop μ-loop
+returns : tie.Need-returns
 returns c =
-    let d = c .before .before .before .before .before .before in
-    let t = turn d in
-    going-cut (t .before .loop .inv) (swap-next _ _ (t .loop-test .taken)) (d .copy-page-once-to-dfu .ensures) (c .enum-told .given .1)
-
-add-copy-page-once-to-active-2 : tie.Need-add-copy-page-once-to-active-2 Inv-loop μ-loop
-add-copy-page-once-to-active-2 c = let t = turn (c .before .before .before .before .before .before .before .before .before .before) in low (t .before .loop .inv) (t .loop-test .taken) .swap-active
-
-copy-page-once-to-active-requires : tie.Need-copy-page-once-to-active-requires Inv-loop μ-loop
-copy-page-once-to-active-requires c κs =
-    let d = c .before .before .before .before .before .before .before .before .before .before in
-    let t = turn d in
-    let e = d .copy-page-once-to-dfu .kept in
-    swap-room-active (t .before .loop .inv) (t .loop-test .taken) (e .1 .1 .0) (e .1 .1 .1 .0)
-
-enum-known-rest : tie.Need-enum-known-rest Inv-loop μ-loop
-enum-known-rest c = c .match2 .keys1
-
-enum-told-2 : tie.Need-enum-told-2 Inv-loop μ-loop
-enum-told-2 c = c .match2 .keys2
-
-same-length-4 : tie.Need-same-length-4 Inv-loop μ-loop
-same-length-4 c =
-    let a = c .before .before .before .before .before .before in
-    a .copy-page-once-to-active .kept .1 .0 ∙ turn (first a) .before .loop .inv .active
-
-same-length-5 : tie.Need-same-length-5 Inv-loop μ-loop
-same-length-5 c =
-    let d = first (c .before .before .before .before .before .before) in
-    d .copy-page-once-to-dfu .kept .1 .1 .0 ∙ turn d .before .loop .inv .dfu
-
-same-length-6 : tie.Need-same-length-6 Inv-loop μ-loop
-same-length-6 c =
-    let a = c .before .before .before .before .before .before in
-    let d = first a in
-    a .copy-page-once-to-active .kept .1 .1 .1 .0 ∙ d .copy-page-once-to-dfu .kept .1 .1 .1 .0 ∙ turn d .before .loop .inv .state
-
-returns-2 : tie.Need-returns-2 Inv-loop μ-loop
-returns-2 c =
-    let a = c .before .before .before .before .before .before in
-    let h = a .before .before .before .before .before in
-    let d = first a in
-    let t = turn d in
-    going-cut2 (t .before .loop .inv) (swap-next _ _ (t .loop-test .taken)) (d .copy-page-once-to-dfu .ensures) (h .half .given .1)
-    (a .copy-page-once-to-active .ensures) (c .enum-told2 .given .1)
-
-add-page-num : tie.Need-add-page-num Inv-loop μ-loop
-add-page-num c = let t = turn (first (c .before .before .before .before .before .before .before)) in low (t .before .loop .inv) (t .loop-test .taken) .next
-
-loop-less : tie.Need-loop-less Inv-loop μ-loop
-loop-less c = falls _ _ (turn (first (c .before .before .before .before .before .before .before)) .loop-test .taken)
-
-loop-again : tie.Need-loop-again Inv-loop μ-loop
-loop-again c =
-    let a = c .before .before .before .before .before .before .before in
-    let h = a .before .before .before .before .before in
-    let d = first a in
-    let t = turn d in
-    let x = a .copy-page-once-to-active .kept in
-    let y = d .copy-page-once-to-dfu .kept in
-    going-turn (t .before .loop .inv) (swap-next _ _ (t .loop-test .taken)) (d .copy-page-once-to-dfu .ensures) (h .half .given .1)
-    (a .copy-page-once-to-active .ensures) (c .before .rest .given .1) (x .1 .0) (y .1 .1 .0) (x .1 .1 .1 .0 ∙ y .1 .1 .1 .0)
-
-same-length-7 : tie.Need-same-length-7 Inv-loop μ-loop
-same-length-7 c = c .before .loop .inv .active
-
-same-length-8 : tie.Need-same-length-8 Inv-loop μ-loop
-same-length-8 c = c .before .loop .inv .dfu
-
-same-length-9 : tie.Need-same-length-9 Inv-loop μ-loop
-same-length-9 c = c .before .loop .inv .state
-
-returns-3 : tie.Need-returns-3 Inv-loop μ-loop
-returns-3 c = going-end (c .before .loop .inv) (swap-last _ _ (c .loop-test .left))
+    let p = c .before .before .before .before .before .before .before .before .before .before .before .before .before .before .pre in
+    swap-whole _ (c .before .before .before .before .before .before .before .before .before .before .page-size .ensures) (p .1)
+    (c .before .before .before .before .before .before .steps .ensures)
 
 pub swap-spec : {M : Type 1} → statement M
 swap-spec =
     tie.close
     (tie.spec
-    Inv-loop
-    μ-loop
     page-size-requires
     div-page-count
-    loop-holds
-    mul-index
-    sub-k
-    sub-k-2
-    add-copy-page-once-to-active
-    copy-page-once-to-dfu-requires
-    enum-known-half
-    enum-told
+    mul-steps
+    steps-requires
     same-length
     same-length-2
     same-length-3
-    returns
-    add-copy-page-once-to-active-2
-    copy-page-once-to-active-requires
-    enum-known-rest
-    enum-told-2
-    same-length-4
-    same-length-5
-    same-length-6
-    returns-2
-    add-page-num
-    loop-less
-    loop-again
-    same-length-7
-    same-length-8
-    same-length-9
-    returns-3)
+    returns)

@@ -1,10 +1,20 @@
-use Rattle.page_copy.proofs.Chunks.{fill-cut, fill-on}
+use native.Mathlib.Omega.{arith}
+use Rattle.page_copy.proofs.Chunks.{target-in, source-in, chunks-in, fill-cut, fill-on}
 use borrow.Author.Needs.{needs}
 use Rattle.page_copy.proofs.copy_page.Statement.{statement}
 use Rattle.page_copy.proofs.copy_page.Tie as tie
 
-add-end : tie.Need-add-end
-add-end c = search needs
+page-size-requires : tie.Need-page-size-requires
+page-size-requires c κs = search needs
+
+cast-b : tie.Need-cast-b
+cast-b c = search needs
+
+page-offset-requires : tie.Need-page-offset-requires
+page-offset-requires c κs = let s = c .before .before .before .before in omega (arith, target-in (s .pre) (c .before .page-size .ensures), s .good)
+
+add-copy-chunks : tie.Need-add-copy-chunks
+add-copy-chunks c = let t = target-in (c .before .before .before .before .before .before .pre) (c .before .before .before .page-size .ensures) in search needs
 
 erase-requires : tie.Need-erase-requires
 erase-requires c κs = search needs
@@ -20,38 +30,55 @@ same-length c = search needs
 
 returns : tie.Need-returns
 returns c =
-    let e = c .before .before .before .before in
-    let a = e .before .before .before .before .before .args in
-    fill-cut _ (a .unit) (a .to .0) (a .from .0) (a .page-size) (a .b) (a .source .now) _ _ _ (e .erase .ensures) (c .enum-told .given .1)
+    let a = c .before .before .before .before .before .before .before .before .before .before .before .before .args in
+    fill-cut (a .g) _ (a .unit) (a .to .0) (a .from .0) (a .source .now) _ _ _
+    (c .before .before .before .before .before .before .before .before .before .page-size .ensures)
+    (c .before .before .before .before .before .before .before .page-offset .ensures)
+    (c .before .before .before .before .erase .ensures) (c .enum-told .given .1)
+
+page-offset-requires-2 : tie.Need-page-offset-requires-2
+page-offset-requires-2 c κs =
+    let s = c .before .before .before .before .before .before .before .before .before .before .before .before .before .before in
+    omega
+    (arith, source-in (s .pre) (c .before .before .before .before .before .before .before .before .before .before .before .page-size .ensures), s .good)
 
 div-copy-chunks : tie.Need-div-copy-chunks
 div-copy-chunks c = search needs
 
 copy-chunks-requires : tie.Need-copy-chunks-requires
-copy-chunks-requires c κs = search needs
+copy-chunks-requires c κs =
+    chunks-in (c .before .before .before .before .before .before .before .before .before .before .before .before .before .before .before .pre)
+    (c .before .before .before .before .before .before .before .before .before .before .before .before .page-size .ensures)
+    (c .before .before .before .before .before .before .before .before .before .before .page-offset .ensures) (c .page-offset2 .ensures)
+    (c .before .before .before .before .before .before .before .erase .kept .0)
 
 same-length-2 : tie.Need-same-length-2
 same-length-2 c = search needs
 
 returns-2 : tie.Need-returns-2
 returns-2 c =
-    let f = c .before .before in
-    let o = f .before .before .before in
-    let e = o .before .before .before .before in
-    let a = e .before .before .before .before .before .args in
-    fill-on _ (a .unit) (a .to .0) (a .from .0) (a .page-size) (a .b) (a .source .now) _ _ _ (e .erase .ensures) _ _ _ (o .rest .given .1)
-    (f .copy-chunks .ensures)
+    let a = c .before .before .before .before .before .before .before .before .before .before .before .before .before .before .before .before .before .before .args in
+    fill-on (a .g) _ (a .unit) (a .to .0) (a .from .0) (a .source .now) _ _ _
+    (c .before .before .before .before .before .before .before .before .before .before .before .before .before .before .before .page-size .ensures)
+    (c .before .before .before .before .before .before .before .before .before .before .before .before .before .page-offset .ensures)
+    (c .before .before .before .before .before .before .before .before .before .before .erase .ensures) _ _
+    (c .before .before .before .before .before .before .rest .given .1) (c .before .before .before .page-offset2 .ensures)
+    (c .before .before .copy-chunks .ensures)
 
 pub copy-page-spec : {M : Type 1} → statement M
 copy-page-spec =
     tie.close
     (tie.spec
-    add-end
+    page-size-requires
+    cast-b
+    page-offset-requires
+    add-copy-chunks
     erase-requires
     enum-known-rest
     enum-told
     same-length
     returns
+    page-offset-requires-2
     div-copy-chunks
     copy-chunks-requires
     same-length-2
