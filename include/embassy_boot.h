@@ -51,7 +51,7 @@ static inline uint32_t eb_operations(uint64_t result) { return (uint32_t)result;
 enum {
     EB_DONE = 0,
 
-    /* A size that the call reads is 0 or above 65,536, or a flash area that it is lent is longer than 1,048,576 bytes. */
+    /* A size that the call reads is 0 or above 65,536, or a flash area that it is lent is longer than 16,777,216 bytes. */
     EB_LIMIT = 1,
 
     /* eb_prepare_boot: the page P is no multiple of one of ea, ed, wa, wd and b; or b is no multiple of wa or of wd; or b is below

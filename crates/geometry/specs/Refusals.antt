@@ -46,7 +46,7 @@ unfoldable pub mostNumber : ℕ
 mostNumber = 65536
 
 unfoldable pub mostLength : ℕ
-mostLength = 1048576
+mostLength = 16777216
 
 unfoldable pub badNumber : ℕ → Bool
 badNumber n = any (eqb n 0 ∷ ltb mostNumber n ∷ [])

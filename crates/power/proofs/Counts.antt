@@ -1,4 +1,4 @@
--- How many operations a call does at the most, so that a count of 32 bits is enough (specs/Cuts, `EveryCount`). A boot runs 2N
+-- How many operations a call does at the most, which a count of 32 bits holds many times over (specs/Cuts, `EveryCount`). A boot runs 2N
 -- steps and then two operations and the state's units; a mark no more than those; a write two for each byte; prepare_update the DFU's
 -- units. Assumes nothing.
 use mathlib.Core.Path.{_≡_, refl, ap}
@@ -7,7 +7,7 @@ use mathlib.Core.List.{List, [], _∷_, _++_}
 use Prim.Native.Nat.{ℕ, zero, suc, _+_, _*_, _/_, _≤_, _<_, max, zero-le}
 use native.Mathlib.Nat.{mul-le-mul-left, div-le-self, le-max-left, le-max-right}
 use native.Mathlib.Omega.{arith}
-use lib.Dec.{eqb}
+use lib.Dec.{eqb, lit<}
 use lib.ListN.{length, drop, length-append}
 use borrow.Author.Tests.{ltb-false, eqb-true}
 use Rattle.state.specs.declared.State.{State}
@@ -35,7 +35,7 @@ use Rattle.rules.specs.Power.{stateUnits, stepCost, dearerCost}
 use Rattle.way.proofs.Costs.{step-count}
 use Rattle.way.proofs.Tables.{swap-count, revert-count, StepRow, swap-row, revert-row}
 use Rattle.way.proofs.Finish.{renew-count, finish-count}
-use Rattle.power.specs.Cuts.{EveryCount}
+use Rattle.power.specs.Cuts.{AtMost, mostInBoot, mostInMark, mostInWrite, mostInPrepare, EveryCount}
 
 -- one of two lists
 pick-count : (b : Bool) (os ps : List Op) (n : ℕ) → length os ≤ n → length ps ≤ n → length (pick b os ps) ≤ n
@@ -104,8 +104,8 @@ module _ (g : Geometry) (f : Flash) where
   boot-most = boot-in-most _
 
   -- a step costs at most three operations a byte of the page, and the pages and the state's units are within the longest area
-  boot-count : prepareBoot g f .refusal ≡ 0 → length (prepareBoot g f .ops) < 4294967296
-  unfolding prepareBoot pageCount pages stepCost dearerCost stateUnits mostLength
+  boot-count : AtMost mostInBoot (prepareBoot g f)
+  unfolding prepareBoot pageCount pages stepCost dearerCost stateUnits mostInBoot
   boot-count r =
       let a = admitted g (length (f .active)) (length (f .dfu)) (length (f .state)) r in
       let p : 0 < page g = page-some (a .numbers) in
@@ -164,8 +164,8 @@ lengths z ld ls swap range r =
       inside = updater-admits z ld ls swap range r .1;
     }
 
-marks-count : (z : StateSizes) (m : ℕ) (st : List ℕ) → length st ≤ mostLength → length (setMagicOps z m st) < 4294967296
-unfolding mostLength
+marks-count : (z : StateSizes) (m : ℕ) (st : List ℕ) → length st ≤ mostLength → length (setMagicOps z m st) ≤ mostInMark
+unfolding mostInMark
 marks-count z m st h = omega (arith, marks-most z m st)
 
 -- ---- write_firmware: a piece has a byte or more, and takes an erase and a write
@@ -204,8 +204,8 @@ range-most wd ld offset n h e = go (eqb n 0) refl e
         omega (arith, ltb-false ld (offset + n) (c .0))
 
 module _ (z : Sizes) (m : Sector) (offset : ℕ) (bytes : List ℕ) (f : Flash) where
-  write-count : writeFirmware z m offset bytes f .refusal ≡ 0 → length (writeFirmware z m offset bytes f .ops) < 4294967296
-  unfolding writeFirmware updaterCall pieces mostLength
+  write-count : AtMost mostInWrite (writeFirmware z m offset bytes f)
+  unfolding writeFirmware updaterCall pieces mostInWrite
   write-count r =
       let a = lengths z (length (f .dfu)) (length (f .state)) _ _ r in
       let few : length bytes ≤ mostLength = range-most (z .wd) (length (f .dfu)) offset (length bytes) (a .dfu) (a .inside) in
@@ -214,8 +214,8 @@ module _ (z : Sizes) (m : Sector) (offset : ℕ) (bytes : List ℕ) (f : Flash) 
 
 -- ---- prepare_update
 
-prepare-count : (z : Sizes) (f : Flash) → prepareUpdate z f .refusal ≡ 0 → length (prepareUpdate z f .ops) < 4294967296
-unfolding prepareUpdate updaterCall mostLength
+prepare-count : (z : Sizes) (f : Flash) → AtMost mostInPrepare (prepareUpdate z f)
+unfolding prepareUpdate updaterCall mostInPrepare
 prepare-count z f r =
     omega (
       arith,
@@ -227,7 +227,7 @@ prepare-count z f r =
 -- ---- every call that does operations
 
 pub every-count : EveryCount
-unfolding mark updaterCall updaterMark updaterMarkUpdated updaterMarkDfu updaterMarkBooted
+unfolding mostLength mostInBoot mostInMark mostInWrite mostInPrepare mark updaterCall updaterMark updaterMarkUpdated updaterMarkDfu updaterMarkBooted
 every-count =
     record {
       boot = boot-count;
@@ -237,4 +237,6 @@ every-count =
       updater-mark-booted = λ z f r. marks-count (z .state) (magic Boot) (f .state) (lengths z _ _ _ _ r .state);
       write-firmware = write-count;
       prepare-update = prepare-count;
+      most = (omega arith, omega arith, omega arith);
+      fits = lit< tt;
     }

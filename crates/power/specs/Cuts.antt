@@ -3,12 +3,13 @@
 use mathlib.Core.Path.{_≡_}
 use mathlib.Core.Option.{none}
 use mathlib.Core.List.{List}
-use Prim.Native.Nat.{ℕ, _≤_, _<_}
+use Prim.Native.Nat.{ℕ, _+_, _*_, _≤_, _<_}
 use lib.ListN.{length}
 use Rattle.state.specs.declared.State.{State}
 use Rattle.geometry.specs.declared.StateSizes.{StateSizes}
 use Rattle.geometry.specs.declared.Geometry.{Geometry}
 use Rattle.geometry.specs.declared.Sizes.{Sizes}
+use Rattle.geometry.specs.Refusals.{mostLength}
 use Rattle.mem_flash.specs.Flash.{Flash, applyAll, after, Supply}
 use Rattle.rules.specs.declared.Sector.{Sector}
 use Rattle.rules.specs.Calls.{Call, report, left}
@@ -48,16 +49,35 @@ pub record EveryCall : Type 0 where
       → Lawful (writeFirmware z m offset bytes f)
   pub prepare-update : (z : Sizes) (f : Flash) → Lawful (prepareUpdate z f)
 
--- the operations of a call that is not refused can be counted in 32 bits
-abbrev pub Counted : Call → Type 0
-Counted c = c .refusal ≡ 0 → length (c .ops) < 4294967296
+-- ---- how many operations
+
+-- a call that is not refused does at most n operations
+abbrev pub AtMost : ℕ → Call → Type 0
+AtMost n c = c .refusal ≡ 0 → length (c .ops) ≤ n
+
+-- the most that each kind of call does, of the longest area: 2N steps of at most three operations a byte of a page, then the state's
+-- units with an invalidation and a magic; those alone; an erase and a write for each byte; the DFU's units
+unfoldable pub mostInBoot : ℕ
+mostInBoot = 7 * mostLength + 2
+
+unfoldable pub mostInMark : ℕ
+mostInMark = mostLength + 2
+
+unfoldable pub mostInWrite : ℕ
+mostInWrite = 2 * mostLength
+
+unfoldable pub mostInPrepare : ℕ
+mostInPrepare = mostLength
 
 pub record EveryCount : Type 0 where
-  pub boot : (g : Geometry) (f : Flash) → Counted (prepareBoot g f)
-  pub marks : (s : State) (z : StateSizes) (st : List ℕ) → Counted (mark s z st)
-  pub updater-mark-updated : (z : Sizes) (f : Flash) → Counted (updaterMarkUpdated z f)
-  pub updater-mark-dfu : (z : Sizes) (f : Flash) → Counted (updaterMarkDfu z f)
-  pub updater-mark-booted : (z : Sizes) (f : Flash) → Counted (updaterMarkBooted z f)
+  pub boot : (g : Geometry) (f : Flash) → AtMost mostInBoot (prepareBoot g f)
+  pub marks : (s : State) (z : StateSizes) (st : List ℕ) → AtMost mostInMark (mark s z st)
+  pub updater-mark-updated : (z : Sizes) (f : Flash) → AtMost mostInMark (updaterMarkUpdated z f)
+  pub updater-mark-dfu : (z : Sizes) (f : Flash) → AtMost mostInMark (updaterMarkDfu z f)
+  pub updater-mark-booted : (z : Sizes) (f : Flash) → AtMost mostInMark (updaterMarkBooted z f)
   pub write-firmware : (z : Sizes) (m : Sector) (offset : ℕ) (bytes : List ℕ) (f : Flash)
-      → Counted (writeFirmware z m offset bytes f)
-  pub prepare-update : (z : Sizes) (f : Flash) → Counted (prepareUpdate z f)
+      → AtMost mostInWrite (writeFirmware z m offset bytes f)
+  pub prepare-update : (z : Sizes) (f : Flash) → AtMost mostInPrepare (prepareUpdate z f)
+  -- a boot may do the most, and 36 times that is a number of 32 bits
+  pub most : (mostInMark ≤ mostInBoot) × (mostInWrite ≤ mostInBoot) × (mostInPrepare ≤ mostInBoot)
+  pub fits : 36 * mostInBoot < 4294967296

@@ -546,10 +546,10 @@ fn told_wide(answer: Answer, active: &[u8; 4], dfu: &[u8; 8], state: &[u8; 28]) 
 
 // The longest active area is refused for its DFU, and one byte more for its length. The verdict reads lengths alone.
 fn long_areas() -> u32 {
-    let most = verdicts::boot_verdict(sizes(16), 1048576, 16, 16);
-    let m = show::judged(b"active of 1,048,576 bytes", most, 3);
-    let more = verdicts::boot_verdict(sizes(16), 1048577, 16, 16);
-    let n = show::judged(b"active of 1,048,577 bytes", more, 1);
+    let most = verdicts::boot_verdict(sizes(16), 16777216, 16, 16);
+    let m = show::judged(b"active of 16,777,216 bytes", most, 3);
+    let more = verdicts::boot_verdict(sizes(16), 16777217, 16, 16);
+    let n = show::judged(b"active of 16,777,217 bytes", more, 1);
     show::sum(m, n)
 }
 

@@ -34,7 +34,7 @@ pub(crate) fn bad_number(n: u32) -> bool
 pub(crate) fn too_long(n: usize) -> bool
     ensures { λ r. ⌜ r ≡ tooLong n ⌝ }
 {
-    1048576 < n
+    16777216 < n
 }
 
 // Whether n is no multiple of m.

@@ -1,10 +1,11 @@
 //! Refusals: for every call each number and length at its limits, alone and two at a time. The table decides;
-//! where a changed input is still admitted, the model does.
+//! where a changed input is still admitted, the original does if it is compiled for these numbers, else the model.
 
 use call::{Bench, Call, Family, Geometry, Kind, NO_SECTOR};
 
 use crate::judge::{Judge, refusal_of};
 use crate::random::Random;
+use crate::shapes;
 
 /// Everything that a call is given, as plain numbers.
 #[derive(Clone, Copy)]
@@ -166,7 +167,7 @@ impl Table {
 
     fn ask(&mut self, judge: &mut Judge, kind: Kind, input: &Input, budget: u32) {
         let (call, bench) = self.lay_out(kind, input, budget);
-        judge.call(None, &call, bench);
+        judge.call(shapes::compiled(&call.geometry), &call, bench);
         self.clear();
     }
 }
@@ -244,9 +245,9 @@ pub fn samples(random: &mut Random, count: usize, mut visit: impl FnMut(&Call, &
     }
 }
 
-/// Lengths at 1,048,576, and the numbers at 65,536 where they are admitted.
+/// Lengths at 16,777,216, and the numbers at 65,536 where they are admitted.
 pub fn large(judge: &mut Judge, _: &mut Random) {
-    const LONGEST: usize = 1_048_576;
+    const LONGEST: usize = 16_777_216;
     let mut table = Table::default();
     let mut page = Input { numbers: [65_536; 7], ..PLAIN };
     page.ls = 2 * 65_536;
@@ -260,17 +261,20 @@ pub fn large(judge: &mut Judge, _: &mut Random) {
         over.numbers[i] = 65_537;
         table.ask(judge, Kind::PrepareBoot, &over, 9);
     }
-    // the longest images: fifteen pages beside a DFU of 1,048,576
-    let words = Input { numbers: [65_536, 256, 65_536, 256, 4096, 4, 32_768], ..largest };
-    let images = Input { la: LONGEST - 65_536, ld: LONGEST, ls: 4096, ..words };
-    for budget in [0, 50, u32::MAX] {
+    // the longest images: 4,095 pages beside a DFU of 16,777,216, and as few marks as they need
+    let words = Input { numbers: [4096, 4, 4096, 4, 4096, 4, 4096], ..largest };
+    let images = Input { la: LONGEST - 4096, ld: LONGEST, ls: 65_536, ..words };
+    for budget in [0, 20_000, u32::MAX] {
         table.ask(judge, Kind::PrepareBoot, &images, budget);
     }
     for length in [LONGEST - 1, LONGEST, LONGEST + 1] {
-        for kind in Kind::ALL.into_iter().filter(|kind| *kind != Kind::StateFrom) {
-            for start in [STARTS[0], STARTS[4]] {
-                for change in [Change::La(length), Change::Ld(length), Change::Ls(length)] {
-                    table.ask(judge, kind, &start.with(&change), 2);
+        // units of one byte divide every length; of other units one call is enough, since a call takes long here
+        let boot = [Kind::PrepareBoot];
+        let every = &Kind::ALL[..13];
+        for (start, kinds) in [(STARTS[0], &boot[..]), (STARTS[4], if length < LONGEST { &boot } else { every })] {
+            for change in [Change::La(length), Change::Ld(length), Change::Ls(length)] {
+                for kind in kinds {
+                    table.ask(judge, *kind, &start.with(&change), 2);
                 }
             }
         }
@@ -285,8 +289,8 @@ pub fn large(judge: &mut Judge, _: &mut Random) {
         let whole = long.with(&Change::Ld(length));
         table.ask(judge, Kind::ReadDfu, &whole, 0);
         let sectors =
-            Input { numbers: [4096, 4, 4096, 4, 16, 1, 256], ld: length, data: length, ..STARTS[0] };
-        for budget in [0, 7, 511, 512, u32::MAX] {
+            Input { numbers: [4096, 4, 4096, 4, 4096, 4, 256], ld: length, ls: 8192, data: length, ..STARTS[0] };
+        for budget in [0, 7, 8191, 8192, u32::MAX] {
             table.ask(judge, Kind::WriteFirmware, &sectors, budget);
         }
     }

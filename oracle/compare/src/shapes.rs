@@ -126,6 +126,12 @@ pub fn all_shapes() -> Vec<(&'static dyn Original, Shape)> {
     TABLE.iter().flat_map(|row| shapes_of(*row).into_iter().map(move |shape| (*row, shape))).collect()
 }
 
+/// The row compiled for a geometry, if there is one.
+pub fn compiled(g: &Geometry) -> Option<&'static dyn Original> {
+    let numbers = [g.ea, g.wa, g.ed, g.wd, g.es, g.ws];
+    TABLE.iter().find(|row| row.numbers() == numbers).copied()
+}
+
 /// The compiled row with these numbers.
 pub fn row(numbers: [u32; 6]) -> &'static dyn Original {
     *TABLE.iter().find(|row| row.numbers() == numbers).expect("a compiled row")

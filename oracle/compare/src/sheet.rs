@@ -1,10 +1,10 @@
 //! Document 01's bench sheet, on all sides: the original, the model and the library.
 
 use call::{Bench, CUT, Call, DONE, Geometry, Kind, NO_SECTOR, NO_STATE, pack};
-use original::{Original, TABLE};
+use original::Original;
 
 use crate::judge::Judge;
-use crate::shapes::{geometry_of, row};
+use crate::shapes::{compiled, geometry_of, row};
 
 fn pages(bytes: &[u8]) -> Vec<u8> {
     bytes.iter().flat_map(|byte| [*byte; 4]).collect()
@@ -25,10 +25,10 @@ struct Sheet<'a> {
 
 impl<'a> Sheet<'a> {
     fn start(judge: &'a mut Judge, numbers: [u32; 6], active: &[u8], dfu: &[u8], state: Vec<u8>) -> Self {
-        // cases that are refused need no compiled row
-        let side = TABLE.iter().find(|row| row.numbers() == numbers).copied();
         let [ea, wa, ed, wd, es, ws] = numbers;
         let geometry = Geometry { ea, wa, ed, wd, es, ws, b: 2 };
+        // cases that are refused need no compiled row
+        let side = compiled(&geometry);
         let bench = Bench { active: pages(active), dfu: pages(dfu), state, out: Vec::new(), last: NO_SECTOR };
         Sheet { judge, side, geometry, bench, failed: 0 }
     }

@@ -254,7 +254,7 @@ impl Model {
                     _ => right,
                 }
             }
-            Wrong::AreaLimitOneLess if right != 1 && lengths.state == 1_048_576 => 1,
+            Wrong::AreaLimitOneLess if right != 1 && lengths.state == 16_777_216 => 1,
             Wrong::OneStateWordEnough if right == 4 && call.kind == Kind::StateGetState => {
                 let words = Lengths { state: 2 * lengths.state, ..lengths };
                 table::refusal(call, &words, || false)

@@ -14,7 +14,7 @@ pub struct Lengths {
 }
 
 const LARGEST_NUMBER: u128 = 65_536;
-const LONGEST_AREA: u128 = 1_048_576;
+const LONGEST_AREA: u128 = 16_777_216;
 
 /// The lowest row that holds, 0 where none does. `swap` is only asked where rows 1 to 4 don't hold.
 pub fn refusal(call: &Call, lengths: &Lengths, swap: impl FnOnce() -> bool) -> u8 {
@@ -175,7 +175,7 @@ mod tests {
         let empty = Lengths { active: 0, dfu: 4, state: 3, out: 0 };
         assert_eq!(boot(Geometry { es: 3, ..SHEET }, empty), 0);
         assert_eq!(boot(Geometry { es: 2, ..SHEET }, Lengths { state: 2, ..empty }), 4);
-        assert_eq!(boot(SHEET, Lengths { active: 1_048_576, ..LENGTHS }), 3);
+        assert_eq!(boot(SHEET, Lengths { active: 16_777_216, ..LENGTHS }), 3);
         assert_eq!(boot(SHEET, Lengths { active: 1_048_577, ..LENGTHS }), 1);
     }
 
