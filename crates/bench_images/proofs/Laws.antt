@@ -15,7 +15,8 @@ use Rattle.geometry.specs.declared.Refusal.{Refusal}
 use Rattle.geometry.specs.declared.StateSizes.{StateSizes}
 use Rattle.geometry.specs.Geometry.{page}
 use Rattle.geometry.specs.Refusals.{verdict, bootRefusal}
-use Rattle.geometry.proofs.Tests.{number-some, page-some}
+use Rattle.geometry.proofs.Tests.{number-some}
+use Rattle.geometry.proofs.PageSize.{page-some}
 use Rattle.geometry.proofs.Rows.{admitted}
 use Rattle.mem_flash.specs.Run.{flash}
 use Rattle.rules.specs.declared.Answer.{Answer}

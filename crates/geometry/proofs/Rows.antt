@@ -16,6 +16,7 @@ use Rattle.geometry.specs.Refusals.{verdict, row, firstRow, bootRefusal,
 use Rattle.geometry.specs.Refusals.{outside, stateNumbers, bootNumbers, updaterNumbers, uneven, unevenPage, unevenAreas, badState, bootWords, otherWords}
 use Rattle.geometry.specs.Admitted.{Number, Numbers, Admitted}
 use Rattle.geometry.proofs.Tests.{any-none, row-none, row-here, row-past, row-end, rows-early, rows-late, number-in, length-in, even}
+use Rattle.geometry.proofs.PageSize.{page-ea, page-ed}
 
 -- row 1
 pub record Limits (g : Geometry) (la ld ls : ℕ) : Type 0 where
@@ -63,8 +64,7 @@ admitted g la ld ls e =
     let u = row-none _ _ _ (t .1) in
     let limits = limits-in g la ld ls (r .0) in
     let a = any-none _ _ (s .0) in
-    let b = any-none _ _ (a .1) in
-    let c = any-none _ _ (b .1) in
+    let c = any-none _ _ (a .1) in
     let d = any-none _ _ (c .1) in
     let i = any-none _ _ (d .1) in
     let j = any-none _ _ (i .1) in
@@ -81,8 +81,9 @@ admitted g la ld ls e =
       active-most = limits .active;
       dfu-most = limits .dfu;
       state-most = limits .state;
-      page-ea = even _ _ (a .0);
-      page-ed = even _ _ (b .0);
+      page-most = ltb-false _ _ (a .0);
+      page-ea = page-ea (limits .numbers);
+      page-ed = page-ed (limits .numbers);
       page-wa = even _ _ (c .0);
       page-wd = even _ _ (d .0);
       page-b = even _ _ (i .0);

@@ -9,12 +9,10 @@ use native.Mathlib.Omega.{arith}
 use lib.Dec.{lit<}
 use borrow.Author.Tests.{ltb-false, eqb-false, eqb-true, not-false}
 use Rattle.state.specs.Choice.{pick}
-use Rattle.geometry.specs.declared.Geometry.{Geometry}
 use Rattle.geometry.specs.declared.Refusal.{Refusal}
 use Rattle.geometry.specs.declared.Refusal.the-variants.{Limit, Page, Area, StateArea, BadState, Range}
-use Rattle.geometry.specs.Geometry.{page}
 use Rattle.geometry.specs.Refusals.{any, number, Row, row, firstRow, mostNumber, mostLength, badNumber, tooLong, uneven}
-use Rattle.geometry.specs.Admitted.{Number, Numbers}
+use Rattle.geometry.specs.Admitted.{Number}
 
 pub any-first : (b : Bool) (bs : List Bool) → b ≡ true → any (b ∷ bs) ≡ true
 unfolding any pick
@@ -99,11 +97,3 @@ even n m e = eqb-true _ _ (not-false _ e)
 -- a multiple is its quotient times the divisor
 pub even-times : (n m : ℕ) → n % m ≡ 0 → n / m * m ≡ n
 even-times n m e = omega (arith, div-add-mod' n m)
-
-pub page-some : {g : Geometry} → Numbers g → 0 < page g
-unfolding page
-page-some s = omega (arith, s .ea .some, s .ed .some)
-
-pub page-most : {g : Geometry} → Numbers g → page g ≤ mostNumber
-unfolding page
-page-most s = omega (arith, s .ea .most, s .ed .most)

@@ -3,7 +3,7 @@ use mathlib.Core.Path.{_≡_}
 use Prim.Native.Nat.{ℕ, _+_, _%_, _≤_, _<_}
 use Rattle.geometry.specs.declared.Geometry.{Geometry}
 use Rattle.geometry.specs.Geometry.{page, pages, words}
-use Rattle.geometry.specs.Refusals.{mostNumber, mostLength, bootWords}
+use Rattle.geometry.specs.Refusals.{mostNumber, mostPage, mostLength, bootWords}
 
 -- a geometry number within its limits
 pub record Number (n : ℕ) : Type 0 where
@@ -26,6 +26,7 @@ pub record Admitted (g : Geometry) (la ld ls : ℕ) : Type 0 where
   pub active-most : la ≤ mostLength
   pub dfu-most : ld ≤ mostLength
   pub state-most : ls ≤ mostLength
+  pub page-most : page g ≤ mostPage
   pub page-ea : page g % g .ea ≡ 0
   pub page-ed : page g % g .ed ≡ 0
   pub page-wa : page g % g .wa ≡ 0

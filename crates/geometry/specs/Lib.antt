@@ -1,3 +1,4 @@
 pub mod Geometry
 pub mod Refusals
 pub mod Admitted
+pub mod PageSize

@@ -41,9 +41,12 @@ unfoldable pub firstRow : List Row → ℕ
 firstRow [] = 0
 firstRow (row r b ∷ rs) = pick b (number r) (firstRow rs)
 
--- the largest geometry number, and the longest flash area
+-- the largest geometry number, the largest page, and the longest flash area
 unfoldable pub mostNumber : ℕ
 mostNumber = 65536
+
+unfoldable pub mostPage : ℕ
+mostPage = 1048576
 
 unfoldable pub mostLength : ℕ
 mostLength = 16777216
@@ -66,8 +69,7 @@ outside numbers lengths = any (map badNumber numbers ++ map tooLong lengths)
 unfoldable pub unevenPage : Geometry → Bool
 unevenPage g =
     any
-    (uneven (page g) (g .ea)
-    ∷ uneven (page g) (g .ed)
+    (ltb mostPage (page g)
     ∷ uneven (page g) (g .wa)
     ∷ uneven (page g) (g .wd)
     ∷ uneven (page g) (g .b)

@@ -75,15 +75,12 @@ impl Refusal {
 }
 
 impl Geometry {
-    // The Rust's PAGE_SIZE: the unit in which images are copied.
+    // The Rust's PAGE_SIZE: the unit in which images are copied. The Rust takes the larger of the two erase sizes, and does not build
+    // where the smaller does not divide it.
     pub fn page_size(self) -> usize
         ensures { λ r. ⌜ r ≡ page self ⌝ }
     {
-        if self.ea < self.ed {
-            self.ed as usize
-        } else {
-            self.ea as usize
-        }
+        gcd::least_common(self.ea, self.ed)
     }
 }
 

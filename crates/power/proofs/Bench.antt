@@ -4,8 +4,9 @@ use mathlib.Core.List.{map}
 use lib.Dec.{lit<, lit≤}
 use Rattle.state.specs.Choice.{pick}
 use Rattle.state.specs.Magic.{erased, marked, magic, throughout, holds, stateOf}
+use Rattle.gcd.specs.Multiple.{firstDivided, leastCommon}
 use Rattle.geometry.specs.Geometry.{page, pages, words}
-use Rattle.geometry.specs.Refusals.{any, number, firstRow, mostNumber, mostLength, badNumber, tooLong, uneven, outside, unevenPage, unevenAreas, badState, otherWords, bootWords, stateNumbers, bootNumbers, bootRefusal, stateRefusal}
+use Rattle.geometry.specs.Refusals.{any, number, firstRow, mostNumber, mostPage, mostLength, badNumber, tooLong, uneven, outside, unevenPage, unevenAreas, badState, otherWords, bootWords, stateNumbers, bootNumbers, bootRefusal, stateRefusal}
 use Rattle.mem_flash.specs.Flash.{programmed, blank, program, erasedAt, writtenAt, change, apply, applyAll, after, unitOps, eraseOps}
 use Rattle.rules.specs.StateArea.{word, readState, valid, markOpen, mostMarks, firstOpen, marksDone, progress, markOp, invalidateOp, magicOp}
 use Rattle.rules.specs.Steps.{toDfu, toActive, swapFrom, revertFrom, swapSteps, revertSteps, sourceOf, unitOf, chunkOps, fillOps, copyOps, onceOps, copiesOps, pageCount, swapOps, revertOps}
@@ -16,14 +17,14 @@ use Rattle.rules.specs.Power.{magicArea, Fresh, swapMarks, swapTable, pageAt, w
 use Rattle.rules.specs.Sheet.{budget, call, walk, computed, told, done, cut, sizes, fresh, filled, zeros, ff}
 use Rattle.rules.proofs.Sheet.{swapped-sheet, reverted-sheet}
 use Rattle.power.specs.Power.{Marked, Ready}
-use Rattle.power.specs.Bench.{noPages, OnTheBench, fine, fineCase, finely, InUnits, confirmation, Unconfirmed}
+use Rattle.power.specs.Bench.{noPages, OnTheBench, fine, fineCase, finely, InUnits, unlike, six, unlikeStart, unlikeSwapped, newHead, unlikeCase, Unlike, confirmation, Unconfirmed}
 use Rattle.power.specs.Confirm.{Swapped, firmware-state, CutConfirmation, confirmedPart, confirmedWhole}
 use Rattle.power.proofs.Proved.{power}
 use Rattle.power.proofs.NoPages.{no-pages}
 use Rattle.power.proofs.Confirmed.{confirmed}
 
 ready : Ready (sizes 16) (fresh 15)
-unfolding pick erased magic page pages words any number firstRow mostNumber mostLength badNumber tooLong uneven outside unevenPage
+unfolding pick erased magic leastCommon firstDivided page pages words any number firstRow mostNumber mostPage mostLength badNumber tooLong uneven outside unevenPage
     unevenAreas badState bootWords stateNumbers bootNumbers bootRefusal pageCount magicArea Fresh sizes fresh filled ff
 ready =
     record {
@@ -32,16 +33,16 @@ ready =
     }
 
 marked-none : Marked (sizes 3) noPages
-unfolding pick erased magic page pages words any number firstRow mostNumber mostLength badNumber tooLong uneven outside unevenPage
+unfolding pick erased magic leastCommon firstDivided page pages words any number firstRow mostNumber mostPage mostLength badNumber tooLong uneven outside unevenPage
     unevenAreas badState bootWords stateNumbers bootNumbers bootRefusal pageCount magicArea Fresh sizes noPages filled ff
 marked-none = record { admitted = refl; active-bytes = tt; dfu-bytes = search (lit<); fresh = refl }
 
 none : pageCount (sizes 3) noPages ≡ 0
-unfolding page pages pageCount sizes noPages
+unfolding pick leastCommon firstDivided page pages pageCount sizes noPages
 none = refl
 
 pub on-the-bench : OnTheBench
-unfolding erased marked magic page pages pageCount magicArea swapMarks swapTable pageAt withPage revertImages reverted
+unfolding pick erased marked magic leastCommon firstDivided page pages pageCount magicArea swapMarks swapTable pageAt withPage revertImages reverted
     revertedErased sizes fresh filled zeros ff
 on-the-bench =
     record {
@@ -58,7 +59,7 @@ on-the-bench =
 -- ---- several units
 
 ready-fine : Ready fine (fresh 15)
-unfolding pick erased magic page pages words any number firstRow mostNumber mostLength badNumber tooLong uneven outside unevenPage
+unfolding pick erased magic leastCommon firstDivided page pages words any number firstRow mostNumber mostPage mostLength badNumber tooLong uneven outside unevenPage
     unevenAreas badState bootWords stateNumbers bootNumbers bootRefusal pageCount magicArea Fresh fine fresh filled ff
 ready-fine =
     record {
@@ -67,7 +68,7 @@ ready-fine =
     }
 
 cases-fine : map computed finely ≡ map told finely
-unfolding pick erased marked magic throughout holds stateOf page pages words any number firstRow mostNumber mostLength badNumber
+unfolding pick erased marked magic throughout holds stateOf leastCommon firstDivided page pages words any number firstRow mostNumber mostPage mostLength badNumber
     tooLong uneven outside unevenPage unevenAreas badState otherWords bootWords stateNumbers bootNumbers bootRefusal stateRefusal
     programmed blank program erasedAt writtenAt change apply applyAll after unitOps eraseOps word readState valid markOpen
     mostMarks firstOpen marksDone progress markOp invalidateOp magicOp toDfu toActive swapFrom revertFrom swapSteps revertSteps
@@ -78,7 +79,7 @@ unfolding pick erased marked magic throughout holds stateOf page pages words any
 cases-fine = refl
 
 pub in-units : InUnits
-unfolding erased marked magic page pages blank pageCount unitOf pageAt withPage revertImages revertMarks revertedPart swapMarks
+unfolding pick erased marked magic leastCommon firstDivided page pages blank pageCount unitOf pageAt withPage revertImages revertMarks revertedPart swapMarks
     swapTable voidMarks confirmedPart stateUnits stepCost fresh filled zeros ff fine
 in-units =
     record {
@@ -92,22 +93,61 @@ in-units =
       power = power fine (fresh 15) ready-fine;
     }
 
+-- ---- erase sizes that do not divide each other
+
+ready-unlike : Ready unlike unlikeStart
+unfolding pick erased magic leastCommon firstDivided page pages words any number firstRow mostNumber mostPage mostLength badNumber
+    tooLong uneven outside unevenPage unevenAreas badState bootWords stateNumbers bootNumbers bootRefusal pageCount magicArea Fresh
+    unlike unlikeStart six ff
+ready-unlike =
+    record {
+      marked = record { admitted = refl; active-bytes = search (lit<); dfu-bytes = search (lit<); fresh = refl };
+      some-page = lit≤ tt;
+    }
+
+case-unlike : computed unlikeCase ≡ told unlikeCase
+unfolding pick erased marked magic throughout holds stateOf leastCommon firstDivided page pages words any number firstRow mostNumber
+    mostPage mostLength badNumber tooLong uneven outside unevenPage unevenAreas badState otherWords bootWords stateNumbers bootNumbers
+    bootRefusal stateRefusal programmed blank program erasedAt writtenAt change apply applyAll after unitOps eraseOps word readState
+    valid markOpen mostMarks firstOpen marksDone progress markOp invalidateOp magicOp toDfu toActive swapFrom revertFrom swapSteps
+    revertSteps sourceOf unitOf chunkOps fillOps copyOps onceOps copiesOps pageCount swapOps revertOps report left renewOps finishOps
+    swapOrRevertOps confirming bootOpsIn bootOps prepareBoot budget call walk computed told done cut zeros ff six unlike unlikeStart
+    unlikeSwapped unlikeCase
+case-unlike = refl
+
+pub unlike-sizes : Unlike
+unfolding pick erased marked magic leastCommon firstDivided page pages words any number firstRow mostNumber mostPage mostLength badNumber
+    tooLong uneven outside unevenPage unevenAreas badState bootWords stateNumbers bootNumbers bootRefusal pageCount unitOf swapMarks
+    swapTable stepCost six zeros ff unlike unlikeStart unlikeSwapped newHead
+unlike-sizes =
+    record {
+      unlike-page = refl;
+      ready = ready-unlike;
+      to-dfu = refl;
+      to-active = refl;
+      swap = case-unlike;
+      table = refl;
+      power = power unlike unlikeStart ready-unlike;
+      head-page = refl;
+      head-admitted = refl;
+    }
+
 -- ---- a confirmation that was cut
 
 swapped : Swapped (sizes 16) (swapTable (sizes 16) (fresh 15))
-unfolding pick erased marked magic page pages words any number firstRow mostNumber mostLength badNumber tooLong uneven outside
+unfolding pick erased marked magic leastCommon firstDivided page pages words any number firstRow mostNumber mostPage mostLength badNumber tooLong uneven outside
     unevenPage unevenAreas badState bootWords stateNumbers bootNumbers bootRefusal pageCount swapMarks swapTable sizes fresh
     filled ff
 swapped = record { admitted = refl; some-page = lit≤ tt; state = refl }
 
 cut-one : CutConfirmation confirmation 1
-unfolding pick erased marked magic throughout page pages words any number firstRow mostNumber mostLength badNumber tooLong uneven
+unfolding pick erased marked magic throughout leastCommon firstDivided page pages words any number firstRow mostNumber mostPage mostLength badNumber tooLong uneven
     outside badState stateNumbers otherWords stateRefusal pageCount unitOps eraseOps word valid report renewOps setMagicOps mark
     swapMarks swapTable sizes fresh filled ff confirmation
 cut-one = record { cut = refl; invalidated = lit≤ tt }
 
 pub unconfirmed : Unconfirmed
-unfolding erased marked magic page pages pageCount magicArea swapMarks swapTable confirmedWhole sizes fresh filled ff confirmation
+unfolding pick erased marked magic leastCommon firstDivided page pages pageCount magicArea swapMarks swapTable confirmedWhole sizes fresh filled ff confirmation
 unconfirmed =
     record {
       swapped = swapped;

@@ -20,7 +20,8 @@ use Rattle.geometry.specs.declared.Sizes.{Sizes}
 use Rattle.geometry.specs.Geometry.{page, pages}
 use Rattle.geometry.specs.Refusals.{any, mostLength, uneven, outside, stateRefusal, stateNumbers, updaterNumbers, updaterRows, updaterRefusal}
 use Rattle.geometry.proofs.Rows.{admitted, updater-admits}
-use Rattle.geometry.proofs.Tests.{any-none, row-none, length-in, even-times, page-some}
+use Rattle.geometry.proofs.Tests.{any-none, row-none, length-in, even-times}
+use Rattle.geometry.proofs.PageSize.{page-some}
 use Rattle.mem_flash.specs.Flash.{Area, active, dfu, state, Flash, Op, erase, write, applyAll}
 use Rattle.mem_flash.specs.Areas.{Image}
 use Rattle.mem_flash.proofs.Erases.{erase-count}

@@ -1,10 +1,13 @@
 -- The statement of specs/Power is not empty: the bench sheet's start meets its premises, and the tables there are the sheet's
 -- cases a and f; case l is a flash without pages. The sheet has one erase unit to a page, so a start with several is here besides,
--- with a cut inside the state's erase. Case j is a start for the statement of specs/Confirm. Proved in proofs/Bench. Assumes nothing.
+-- with a cut inside the state's erase, and one whose erase sizes do not divide each other. Case j is a start for the statement of specs/Confirm. Proved in proofs/Bench. Assumes nothing.
 use mathlib.Core.Path.{_≡_}
 use mathlib.Core.List.{List, [], _∷_, _++_, map}
+use Prim.Native.Nat.{ℕ}
 use Rattle.state.specs.declared.State.the-variants.{Boot, Swap}
 use Rattle.geometry.specs.declared.Geometry.{Geometry}
+use Rattle.geometry.specs.Geometry.{page}
+use Rattle.geometry.specs.Refusals.{bootRefusal}
 use Rattle.mem_flash.specs.Flash.{active, dfu, Flash}
 use Rattle.mem_flash.specs.Run.{flash}
 use Rattle.rules.specs.Steps.{pageCount}
@@ -65,6 +68,41 @@ pub record InUnits : Type 0 where
   pub confirmed : confirmedPart fine 1 (swapTable fine (fresh 15))
       ≡ flash (filled (4 ∷ 5 ∷ 6 ∷ [])) (filled (4 ∷ 1 ∷ 2 ∷ 3 ∷ [])) (ff 4 ++ (zeros 4 ++ ff 8))
   pub power : Power fine (fresh 15)
+
+-- ---- erase sizes of which neither divides the other (02, No. 6)
+
+-- 2 and 3 bytes: two pages of 6, three erase units to a page of active and two to one of DFU
+unfoldable pub unlike : Geometry
+unlike = record { ea = 2; wa = 1; ed = 3; wd = 1; state = record { es = 11; ws = 1 }; b = 3 }
+
+unfoldable pub six : ℕ → List ℕ
+six n = n ∷ n ∷ n ∷ n ∷ n ∷ n ∷ []
+
+unfoldable pub unlikeStart : Flash
+unlikeStart = flash (six 1 ++ six 2) (six 4 ++ (six 5 ++ six 6)) (0xF0 ∷ ff 10)
+
+unfoldable pub unlikeSwapped : Flash
+unlikeSwapped = flash (six 4 ++ six 5) (six 4 ++ (six 1 ++ six 2)) (0xF0 ∷ 0xFF ∷ (zeros 4 ++ ff 5))
+
+-- the request's head: 264 and 4,096 bytes
+unfoldable pub newHead : Geometry
+newHead = record { ea = 264; wa = 8; ed = 4096; wd = 256; state = record { es = 4096; ws = 4 }; b = 256 }
+
+-- two steps of either kind
+unfoldable pub unlikeCase : Case
+unlikeCase = record { geometry = unlike; start = unlikeStart; runs = boot 22 ∷ []; answer = done Swap 22; left = unlikeSwapped }
+
+pub record Unlike : Type 0 where
+  pub unlike-page : page unlike ≡ 6
+  pub ready : Ready unlike unlikeStart
+  pub to-dfu : stepCost unlike dfu ≡ 5
+  pub to-active : stepCost unlike active ≡ 6
+  pub swap : computed unlikeCase ≡ told unlikeCase
+  pub table : swapTable unlike unlikeStart ≡ unlikeSwapped
+  pub power : Power unlike unlikeStart
+  -- the request's sizes are admitted with one page, said of the numbers alone
+  pub head-page : page newHead ≡ 135168
+  pub head-admitted : bootRefusal newHead 135168 270336 4096 ≡ 0
 
 -- case j: on the flash of case a a mark_booted is cut right after its invalidation
 unfoldable pub confirmation : Call

@@ -92,10 +92,7 @@ pub(crate) fn uneven_page(g: Geometry) -> bool
     let ws = g.state.ws as usize;
     let chunk = or(uneven(b, wa), or(uneven(b, wd), last(b < ws)));
     let writes = or(uneven(p, wa), or(uneven(p, wd), or(uneven(p, b), chunk)));
-    or(
-        uneven(p, g.ea as usize),
-        or(uneven(p, g.ed as usize), writes),
-    )
+    or(1048576 < p, writes)
 }
 
 // Row 3 of prepare_boot.

@@ -8,7 +8,8 @@ use Rattle.geometry.specs.declared.Geometry.{Geometry}
 use Rattle.geometry.specs.Geometry.{page, pages, words}
 use Rattle.geometry.specs.Refusals.{bootWords, bootRefusal}
 use Rattle.geometry.proofs.Rows.{admitted}
-use Rattle.geometry.proofs.Tests.{even-times, page-some}
+use Rattle.geometry.proofs.Tests.{even-times}
+use Rattle.geometry.proofs.PageSize.{page-some}
 use Rattle.mem_flash.specs.Flash.{Area, Flash}
 use Rattle.rules.specs.StateArea.{progress}
 use Rattle.rules.specs.Steps.{unitOf, pageCount}

@@ -274,14 +274,14 @@ impl Device {
 impl Reading {
     /// Active page i is filled with i + 1, DFU page j with N + j + 1, both modulo 256.
     fn fill(&self, geometry: &Geometry, areas: &mut Bench) {
-        let unit = |erase: u32| if self.errs(Slip::PagesByEraseUnit) { erase } else { geometry.page() };
-        let pages = areas.active.len() / geometry.page() as usize;
+        let unit = |erase: u32| if self.errs(Slip::PagesByEraseUnit) { erase as usize } else { geometry.page() };
+        let pages = areas.active.len() / geometry.page();
         let first = if self.errs(Slip::PagesFromZero) { 0 } else { 1 };
         let first_dfu = if self.errs(Slip::DfuPagesFromOne) { 1 } else { pages + first };
         for (area, erase, first) in
             [(&mut areas.active, geometry.ea, first), (&mut areas.dfu, geometry.ed, first_dfu)]
         {
-            for (at, page) in area.chunks_mut(unit(erase).max(1) as usize).enumerate() {
+            for (at, page) in area.chunks_mut(unit(erase).max(1)).enumerate() {
                 let number = first + at;
                 page.fill(if self.errs(Slip::PagesStopAt255) { number.min(255) } else { number } as u8);
             }

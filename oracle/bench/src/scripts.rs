@@ -1,7 +1,7 @@
 //! Well-formed inputs: a geometry with its lengths, and commands.
 
-use call::Geometry;
 use call::random::Random;
+use call::{Geometry, least_common};
 
 /// The first two lines.
 #[derive(Clone, Copy)]
@@ -25,7 +25,7 @@ pub const SHEET: Shape =
 
 impl Shape {
     pub fn pages(&self) -> usize {
-        self.lengths[0] / self.geometry.page().max(1) as usize
+        self.lengths[0] / self.geometry.page().max(1)
     }
 
     pub fn with(self, commands: &[(&'static str, u32)]) -> Script {
@@ -35,7 +35,7 @@ impl Shape {
     /// More operations than any one command does, with an erase counted unit by unit.
     pub fn plenty(&self) -> u32 {
         let g = &self.geometry;
-        let page = g.page();
+        let page = g.page() as u32;
         let step = page / g.ea.min(g.ed).max(1) + page / g.b.max(1) + 1;
         2 * self.pages() as u32 * step + self.lengths[2] as u32 / g.es.max(1) + 3
     }
@@ -61,8 +61,11 @@ pub fn admitted(random: &mut Random, most: usize) -> Shape {
     let b = wd * (1 + random.below(3));
     let page = b * (1 + random.below(4));
     let divisors: Vec<usize> = (1..=page).filter(|d| page.is_multiple_of(*d)).collect();
-    let other = if random.once_in(2) { page } else { *random.pick(&divisors) };
-    let (ea, ed) = if random.once_in(2) { (page, other) } else { (other, page) };
+    // two erase sizes of which this is the page; often equal, else one divides the other or neither does
+    let one = if random.once_in(2) { page } else { *random.pick(&divisors) };
+    let others: Vec<usize> = divisors.into_iter().filter(|d| least_common(one, *d) == page).collect();
+    let other = if random.once_in(2) { page } else { *random.pick(&others) };
+    let (ea, ed) = if random.once_in(2) { (one, other) } else { (other, one) };
     let (wa, wd) = if random.once_in(2) { (wa, wd) } else { (wd, wa) };
     let ws = 1 + random.below(b.min(5));
     let es = ws * (1 + random.below(12));

@@ -111,7 +111,7 @@ const OWN: [(&str, Slip); 48] = [
 ];
 
 /// The model's ways that show in what the three commands can reach.
-const CALLS: [&str; 13] = [
+const CALLS: [&str; 15] = [
     "low-pages-first",
     "revert-high-pages-first",
     "count-one-more",
@@ -125,6 +125,8 @@ const CALLS: [&str; 13] = [
     "higher-refusal-first",
     "exact-budget-is-a-cut",
     "page-written-at-once",
+    "page-is-the-larger",
+    "page-is-the-product",
 ];
 
 impl Slip {

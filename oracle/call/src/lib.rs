@@ -110,9 +110,19 @@ pub struct Geometry {
 }
 
 impl Geometry {
-    pub fn page(&self) -> u32 {
-        self.ea.max(self.ed)
+    /// P
+    pub fn page(&self) -> usize {
+        least_common(self.ea as usize, self.ed as usize)
     }
+}
+
+/// The least common multiple; 0 where a number is 0.
+pub fn least_common(a: usize, b: usize) -> usize {
+    let (mut x, mut y) = (a, b);
+    while y != 0 {
+        (x, y) = (y, x % y);
+    }
+    if x == 0 { 0 } else { a / x * b }
 }
 
 /// A call, apart from what it is lent.

@@ -52,7 +52,7 @@ fn each_shape_over(
     alphabet: &[u8],
 ) {
     let geometry = crate::shapes::geometry_of(side, b);
-    let page = geometry.page() as usize;
+    let page = geometry.page();
     let shape = Shape { geometry, la: pages * page, ld: dfu_pages * page, ls: words * geometry.ws as usize };
     let mut bench = shape.bench(random, Vec::new());
     each_over(alphabet, start, shape.ls, |state| {

@@ -267,15 +267,22 @@ pub fn large(judge: &mut Judge, _: &mut Random) {
     for budget in [0, 20_000, u32::MAX] {
         table.ask(judge, Kind::PrepareBoot, &images, budget);
     }
+    // erase sizes that share no divisor: pages of 1,048,575 and, past the limit, of 1,048,577 bytes
+    for [ea, ed] in [[1023, 1025], [1025, 1023], [17, 61_681], [61_681, 17]] {
+        let page = (ea * ed) as usize;
+        let unlike = Input { numbers: [ea, 1, ed, 1, 7, 1, 1], la: page, ld: 2 * page, ls: 7, magic: 0xF0, ..PLAIN };
+        for budget in [0, 2000, 1_100_000] {
+            table.ask(judge, Kind::PrepareBoot, &unlike, budget);
+        }
+    }
+    // small areas of the same units, so that each length is admitted by itself; the original is compiled for them
+    let paged = Input { numbers: [4096, 4, 4096, 4, 4096, 4, 256], la: 4096, ld: 8192, ls: 8192, ..PLAIN };
     for length in [LONGEST - 1, LONGEST, LONGEST + 1] {
-        // units of one byte divide every length; of other units one call is enough, since a call takes long here
-        let boot = [Kind::PrepareBoot];
-        let every = &Kind::ALL[..13];
-        for (start, kinds) in [(STARTS[0], &boot[..]), (STARTS[4], if length < LONGEST { &boot } else { every })] {
+        // a call on such areas takes long, and one byte less than the limit is like any other length
+        let kinds = if length < LONGEST { 1 } else { 13 };
+        for kind in &Kind::ALL[..kinds] {
             for change in [Change::La(length), Change::Ld(length), Change::Ls(length)] {
-                for kind in kinds {
-                    table.ask(judge, *kind, &start.with(&change), 2);
-                }
+                table.ask(judge, *kind, &paged.with(&change), 2);
             }
         }
         // a length above the limit is refused before anything else, a number out of range with it
@@ -288,8 +295,7 @@ pub fn large(judge: &mut Judge, _: &mut Random) {
         table.ask(judge, Kind::WriteFirmware, &long, u32::MAX);
         let whole = long.with(&Change::Ld(length));
         table.ask(judge, Kind::ReadDfu, &whole, 0);
-        let sectors =
-            Input { numbers: [4096, 4, 4096, 4, 4096, 4, 256], ld: length, ls: 8192, data: length, ..STARTS[0] };
+        let sectors = Input { ld: length, data: length, ..paged };
         for budget in [0, 7, 8191, 8192, u32::MAX] {
             table.ask(judge, Kind::WriteFirmware, &sectors, budget);
         }

@@ -1,6 +1,6 @@
 //! Geometries with their lengths: for each compiled row many chunks and lengths, and random admitted ones.
 
-use call::{Bench, Geometry, NO_SECTOR};
+use call::{Bench, Geometry, NO_SECTOR, least_common};
 use original::{Original, TABLE};
 
 use crate::random::Random;
@@ -17,7 +17,7 @@ pub struct Shape {
 impl Shape {
     /// P
     pub fn page(&self) -> usize {
-        self.geometry.page() as usize
+        self.geometry.page()
     }
 
     /// N
@@ -81,9 +81,9 @@ pub fn geometry_of(row: &dyn Original, b: usize) -> Geometry {
 /// Chunks that document 01 admits with these numbers, rising.
 pub fn chunks(g: &Geometry) -> Vec<usize> {
     let fits = |b: &u32| {
-        g.page().is_multiple_of(*b) && b.is_multiple_of(g.wa) && b.is_multiple_of(g.wd) && *b >= g.ws
+        g.page().is_multiple_of(*b as usize) && b.is_multiple_of(g.wa) && b.is_multiple_of(g.wd) && *b >= g.ws
     };
-    (1..=g.page()).filter(fits).map(|b| b as usize).collect()
+    (1..=g.page() as u32).filter(fits).map(|b| b as usize).collect()
 }
 
 /// The smallest, one in the middle, the largest.
@@ -104,7 +104,7 @@ pub fn state_lengths(g: &Geometry, pages: usize) -> [usize; 3] {
 
 /// Shapes of one compiled row; a long page takes fewer pages.
 pub fn shapes_of(row: &dyn Original) -> Vec<Shape> {
-    let page = geometry_of(row, 1).page() as usize;
+    let page = geometry_of(row, 1).page();
     let mut shapes = Vec::new();
     for pages in [0, 1, 2, 3, 4, 8] {
         if pages * page > 4096.max(page) {
@@ -137,23 +137,18 @@ pub fn row(numbers: [u32; 6]) -> &'static dyn Original {
     *TABLE.iter().find(|row| row.numbers() == numbers).expect("a compiled row")
 }
 
-fn lcm(a: usize, b: usize) -> usize {
-    let (mut x, mut y) = (a, b);
-    while y != 0 {
-        (x, y) = (y, x % y);
-    }
-    a / x * b
-}
-
 /// An admitted shape for boot with numbers that need not be compiled: built from the smallest unit upwards.
 pub fn random_shape(random: &mut Random) -> Shape {
     let wa = 1 + random.below(12);
     let wd = if random.once_in(2) { wa } else { 1 + random.below(12) };
-    let b = lcm(wa, wd) * (1 + random.below(3));
+    let b = least_common(wa, wd) * (1 + random.below(3));
     let page = b * (1 + random.below(4));
     let divisors: Vec<usize> = (1..=page).filter(|d| page.is_multiple_of(*d)).collect();
-    let smaller = *random.pick(&divisors);
-    let (ea, ed) = if random.once_in(2) { (page, smaller) } else { (smaller, page) };
+    // two erase sizes of which this is the page: one divides the other, or neither does
+    let one = *random.pick(&divisors);
+    let others: Vec<usize> = divisors.into_iter().filter(|d| least_common(one, *d) == page).collect();
+    let other = *random.pick(&others);
+    let (ea, ed) = if random.once_in(2) { (one, other) } else { (other, one) };
     let ws = 1 + random.below(b.min(9));
     let es = ws * (1 + random.below(20));
     let pages = random.below(6);

@@ -50,10 +50,14 @@ pub enum Wrong {
     ConfirmsAboveTwoN,
     ConfirmsAtFourN,
     ConfirmedAsRevert,
+    PageIsTheLarger,
+    PageIsTheProduct,
+    PageLimitLess,
+    PageLimitMore,
 }
 
 impl Wrong {
-    pub const ALL: [(&'static str, Wrong); 39] = [
+    pub const ALL: [(&'static str, Wrong); 43] = [
         ("low-pages-first", Wrong::LowPagesFirst),
         ("revert-high-pages-first", Wrong::RevertHighPagesFirst),
         ("count-one-more", Wrong::CountOneMore),
@@ -93,6 +97,10 @@ impl Wrong {
         ("confirms-above-two-n", Wrong::ConfirmsAboveTwoN),
         ("confirms-at-four-n", Wrong::ConfirmsAtFourN),
         ("confirmed-as-revert", Wrong::ConfirmedAsRevert),
+        ("page-is-the-larger", Wrong::PageIsTheLarger),
+        ("page-is-the-product", Wrong::PageIsTheProduct),
+        ("page-limit-less", Wrong::PageLimitLess),
+        ("page-limit-more", Wrong::PageLimitMore),
     ];
 
     pub fn named(name: &str) -> Option<Wrong> {
@@ -208,7 +216,7 @@ impl Model {
         }
         let run = Run::new(Wrong::Nothing, call, lent);
         Model::RIGHT.state_of(run.word(0)) == SWAP
-            && run.confirming(lent.active.len() / call.geometry.page() as usize)
+            && run.confirming(lent.active.len() / call.geometry.page())
     }
 
     fn refusal(&self, call: &Call, lent: &Lent) -> u8 {
@@ -229,7 +237,7 @@ impl Model {
     /// The table's answer, spoilt where the model is told to err there.
     fn spoilt_refusal(&self, right: u8, call: &Call, lent: &Lent, lengths: Lengths) -> u8 {
         let word = call.geometry.ws as usize;
-        let page = call.geometry.page() as usize;
+        let page = call.geometry.page();
         let truncated = Call { offset: call.offset & 0xFFFF_FFFF, ..*call };
         match self.wrong {
             Wrong::EmptyDataRangeChecked
@@ -254,6 +262,23 @@ impl Model {
                     _ => right,
                 }
             }
+            // where neither size divides the other the larger is no page: the Rust would not build
+            Wrong::PageIsTheLarger
+                if right == 0
+                    && call.kind == Kind::PrepareBoot
+                    && page > call.geometry.ea.max(call.geometry.ed) as usize =>
+            {
+                2
+            }
+            // the rows for areas, read with the product
+            Wrong::PageIsTheProduct if right == 0 && call.kind == Kind::PrepareBoot => {
+                let product = call.geometry.ea as usize * call.geometry.ed as usize;
+                let whole = lengths.active.is_multiple_of(product) && lengths.dfu.is_multiple_of(product);
+                if whole && lengths.dfu >= lengths.active + product { right } else { 3 }
+            }
+            // 1,023 times 1,025, and 17 times 61,681: the pages on either side of the limit
+            Wrong::PageLimitLess if right == 0 && call.kind == Kind::PrepareBoot && page == 1_048_575 => 2,
+            Wrong::PageLimitMore if right == 2 && call.kind == Kind::PrepareBoot && page == 1_048_577 => 0,
             Wrong::AreaLimitOneLess if right != 1 && lengths.state == 16_777_216 => 1,
             Wrong::OneStateWordEnough if right == 4 && call.kind == Kind::StateGetState => {
                 let words = Lengths { state: 2 * lengths.state, ..lengths };
@@ -474,7 +499,7 @@ impl Run {
         if entry != SWAP {
             return entry;
         }
-        let page = call.geometry.page() as usize;
+        let page = call.geometry.page();
         let chunk = call.geometry.b as usize;
         let pages = self.active.len() / page;
         if self.confirming(pages) {

@@ -15,6 +15,7 @@ pub struct Lengths {
 
 const LARGEST_NUMBER: u128 = 65_536;
 const LONGEST_AREA: u128 = 16_777_216;
+const LARGEST_PAGE: u128 = 1_048_576;
 
 /// The lowest row that holds, 0 where none does. `swap` is only asked where rows 1 to 4 don't hold.
 pub fn refusal(call: &Call, lengths: &Lengths, swap: impl FnOnce() -> bool) -> u8 {
@@ -69,9 +70,9 @@ impl Facts {
         }
     }
 
-    /// P
+    /// P: the first multiple of one erase size that the other divides. Only asked where neither is 0.
     fn page(&self) -> u128 {
-        self.ea.max(self.ed)
+        (1..).map(|i| i * self.ea).find(|page| page.is_multiple_of(self.ed)).expect("their product, at the latest")
     }
 
     /// N
@@ -105,7 +106,8 @@ fn row_2(f: &Facts, family: Family) -> bool {
     match family {
         Family::Boot => {
             let p = f.page();
-            [f.ea, f.ed, f.wa, f.wd, f.b].iter().any(|part| uneven(p, *part))
+            p > LARGEST_PAGE
+                || [f.wa, f.wd, f.b].iter().any(|part| uneven(p, *part))
                 || uneven(f.b, f.wa)
                 || uneven(f.b, f.wd)
                 || f.b < f.ws
@@ -176,7 +178,7 @@ mod tests {
         assert_eq!(boot(Geometry { es: 3, ..SHEET }, empty), 0);
         assert_eq!(boot(Geometry { es: 2, ..SHEET }, Lengths { state: 2, ..empty }), 4);
         assert_eq!(boot(SHEET, Lengths { active: 16_777_216, ..LENGTHS }), 3);
-        assert_eq!(boot(SHEET, Lengths { active: 1_048_577, ..LENGTHS }), 1);
+        assert_eq!(boot(SHEET, Lengths { active: 16_777_217, ..LENGTHS }), 1);
     }
 
     #[test]

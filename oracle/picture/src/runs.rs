@@ -49,7 +49,7 @@ pub struct Story {
 }
 
 pub fn page() -> usize {
-    GEOMETRY.page() as usize
+    GEOMETRY.page()
 }
 
 pub fn chunk() -> usize {

@@ -1,7 +1,7 @@
 use Rattle.mem_flash.specs.Run.{flash}
 use native.Mathlib.Omega.{arith}
 use mathlib.Core.Path.{refl}
-use Rattle.geometry.proofs.Tests.{page-some}
+use Rattle.geometry.proofs.PageSize.{page-some}
 use Rattle.boot_choice.proofs.Choices.{counts-fit, does-nothing, confirms, swaps, reverts, swap-next, revert-next}
 use Rattle.boot_choice.proofs.perform.Statement.{statement}
 use Rattle.boot_choice.proofs.perform.Tie as tie

@@ -1,6 +1,6 @@
 use native.Mathlib.Omega.{arith}
 use Rattle.geometry.specs.Geometry.{pages}
-use Rattle.geometry.proofs.Tests.{page-some}
+use Rattle.geometry.proofs.PageSize.{page-some}
 use Rattle.boot_steps.proofs.Room.{steps-few}
 use Rattle.boot_steps.proofs.Going.{revert-whole}
 use Rattle.boot_steps.proofs.revert.Statement.{statement}

@@ -4,7 +4,7 @@ use native.Mathlib.Omega.{arith}
 use lib.ListN.{length}
 use lib.Seq.{slice}
 use Rattle.geometry.specs.Geometry.{pages}
-use Rattle.geometry.proofs.Tests.{page-some}
+use Rattle.geometry.proofs.PageSize.{page-some}
 use Rattle.mem_flash.specs.Run.{flash}
 use Rattle.rules.specs.Steps.{allSteps, copiesOps}
 use Rattle.boot_steps.proofs.Room.{mark-in, pages-few}

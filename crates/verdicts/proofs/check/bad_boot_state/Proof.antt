@@ -1,4 +1,4 @@
-use Rattle.geometry.proofs.Tests.{page-some}
+use Rattle.geometry.proofs.PageSize.{page-some}
 use Rattle.geometry.specs.Geometry.{pages}
 use native.Mathlib.Nat.{div-le-self}
 use native.Mathlib.Omega.{arith}

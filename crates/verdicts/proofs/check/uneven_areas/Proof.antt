@@ -1,7 +1,7 @@
 use mathlib.Core.Path.{refl}
 use native.Mathlib.Omega.{arith}
 use Rattle.geometry.specs.Refusals.{unevenAreas, mostNumber, mostLength}
-use Rattle.geometry.proofs.Tests.{page-some, page-most}
+use Rattle.geometry.proofs.PageSize.{page-some, page-fits}
 use borrow.Author.Needs.{needs}
 use Rattle.verdicts.proofs.check.uneven_areas.Statement.{statement}
 use Rattle.verdicts.proofs.check.uneven_areas.Tie as tie
@@ -17,7 +17,7 @@ uneven-requires-2 c κs = omega (arith, page-some (c .before .before .pre .0))
 
 add-last : tie.Need-add-last
 unfolding mostNumber mostLength
-add-last c = record { fits = omega (arith, page-most (c .before .before .before .pre .0)) }
+add-last c = record { fits = omega (arith, page-fits (c .before .before .before .pre .0)) }
 
 last-requires : tie.Need-last-requires
 last-requires c κs = search needs

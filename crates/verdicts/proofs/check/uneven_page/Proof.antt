@@ -1,4 +1,4 @@
-use Rattle.geometry.specs.Refusals.{unevenPage}
+use Rattle.geometry.specs.Refusals.{mostPage, unevenPage}
 use mathlib.Core.Path.{refl}
 use borrow.Author.Needs.{needs}
 use Rattle.verdicts.proofs.check.uneven_page.Statement.{statement}
@@ -52,34 +52,18 @@ or-requires-4 c κs = search needs
 or-requires-5 : tie.Need-or-requires-5
 or-requires-5 c κs = search needs
 
-cast-uneven : tie.Need-cast-uneven
-cast-uneven c = search needs
-
-uneven-requires-6 : tie.Need-uneven-requires-6
-uneven-requires-6 c κs = c .before .before .before .before .before .before .before .before .before .before .before .before .before .before .before .before .before .pre .ea .some
-
-cast-uneven-2 : tie.Need-cast-uneven-2
-cast-uneven-2 c = search needs
-
-uneven-requires-7 : tie.Need-uneven-requires-7
-uneven-requires-7 c κs = c .before .before .before .before .before .before .before .before .before .before .before .before .before .before .before .before .before .before .before .pre .ed .some
-
 or-requires-6 : tie.Need-or-requires-6
 or-requires-6 c κs = search needs
 
-or-requires-7 : tie.Need-or-requires-7
-or-requires-7 c κs = search needs
-
 returns : tie.Need-returns
-unfolding unevenPage
+unfolding unevenPage mostPage
 returns c =
-    let w = c .before .before .before .before .before .before in
+    let w = c .before in
     let k = w .before .before .before .before .before .before in
     let chunk = k .or2 .ensures _ _ (k .before .before .before .before .uneven .ensures) (k .before .or .ensures _ _ (k .before .before .before .uneven2 .ensures) (k .before .before .last .ensures _ refl)) in
     let page = w .before .before .or3 .ensures _ _ (w .before .before .before .uneven5 .ensures) chunk in
     let writes = w .or5 .ensures _ _ (w .before .before .before .before .before .uneven3 .ensures) (w .before .or4 .ensures _ _ (w .before .before .before .before .uneven4 .ensures) page) in
-    rw (← k .before .before .before .before .before .before .before .before .before .page-size .ensures)
-    (c .or7 .ensures _ _ (c .before .before .before .before .uneven6 .ensures) (c .before .or6 .ensures _ _ (c .before .before .uneven7 .ensures) writes))
+    rw (← k .before .before .before .before .before .before .before .before .before .page-size .ensures) (c .or6 .ensures _ _ refl writes)
 
 pub uneven-page-spec : {M : Type 1} → statement M
 uneven-page-spec =
@@ -101,10 +85,5 @@ uneven-page-spec =
     or-requires-3
     or-requires-4
     or-requires-5
-    cast-uneven
-    uneven-requires-6
-    cast-uneven-2
-    uneven-requires-7
     or-requires-6
-    or-requires-7
     returns)
