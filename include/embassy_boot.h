@@ -16,7 +16,8 @@
  *   ed, wd   erase and write size of DFU               DFU::ERASE_SIZE, DFU::WRITE_SIZE; an erase unit of DFU is a sector
  *   es, ws   erase and write size of the state area    STATE::ERASE_SIZE, STATE::WRITE_SIZE; ws bytes are a state word
  *   b        the chunk in which a page is copied       aligned_buf.len()
- * P, the page, is the larger of ea and ed. N is the number of pages in active, T the number of words in the state area.
+ * P, the page, is the least common multiple of ea and ed: the larger where one divides the other. N is the number of pages in
+ * active, T the number of words in the state area.
  *
  * What is asked of a caller: a pointer is valid for its length, lent areas do not overlap, and a length of 0 still comes with a
  * pointer that is not null. Nothing else: what does not fit is refused.
@@ -54,8 +55,8 @@ enum {
     /* A size that the call reads is 0 or above 65,536, or a flash area that it is lent is longer than 16,777,216 bytes. */
     EB_LIMIT = 1,
 
-    /* eb_prepare_boot: the page P is no multiple of one of ea, ed, wa, wd and b; or b is no multiple of wa or of wd; or b is below
-     * ws, for the buffer of the chunk is also the one through which the crate reads and writes a state word.
+    /* eb_prepare_boot: the page P is above 1,048,576, or no multiple of one of wa, wd and b; or b is no multiple of wa or of wd; or
+     * b is below ws, for the buffer of the chunk is also the one through which the crate reads and writes a state word.
      * Updater: ed is no multiple of wd. */
     EB_PAGE = 2,
 

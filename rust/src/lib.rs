@@ -56,12 +56,13 @@ pub enum State {
 
 /// Why a call says no. It has changed no area, no output and no memory of an updater then. Where several hold, the first is given.
 ///
-/// P, the page, is the larger of `ea` and `ed`; N is the number of pages in active, T the number of words in the state area.
+/// P, the page, is the least common multiple of `ea` and `ed`, the larger where one divides the other; N is the number of pages in
+/// active, T the number of words in the state area.
 #[derive(Clone, Copy, PartialEq, Eq, Debug)]
 pub enum Refusal {
-    /// 1: a size that the call reads is 0 or above 65,536, or a flash area that it is lent is longer than 1,048,576 bytes.
+    /// 1: a size that the call reads is 0 or above 65,536, or a flash area that it is lent is longer than 16,777,216 bytes.
     Limit,
-    /// 2: in a boot, P is no multiple of one of `ea`, `ed`, `wa`, `wd` and `b`, or `b` is no multiple of `wa` or of `wd`, or `b` is
+    /// 2: in a boot, P is above 1,048,576 or no multiple of one of `wa`, `wd` and `b`, or `b` is no multiple of `wa` or of `wd`, or `b` is
     /// below `ws` (the chunk's buffer is the one that a state word goes through in the original). In the updater, `ed` is no
     /// multiple of `wd`.
     Page,
@@ -161,7 +162,7 @@ impl fmt::Display for State {
 impl fmt::Display for Refusal {
     fn fmt(&self, f: &mut fmt::Formatter) -> fmt::Result {
         let why = match self {
-            Refusal::Limit => "a size is 0 or above 65,536, or an area is longer than 1,048,576 bytes",
+            Refusal::Limit => "a size is 0 or above 65,536, or an area is longer than 16,777,216 bytes",
             Refusal::Page => "the sizes don't fit a page",
             Refusal::Area => "an image is no whole number of pages, or DFU isn't a page longer than active",
             Refusal::StateArea => "the state area is no whole number of erase units, or has too few words",

@@ -274,7 +274,8 @@ impl Device {
 impl Reading {
     /// Active page i is filled with i + 1, DFU page j with N + j + 1, both modulo 256.
     fn fill(&self, geometry: &Geometry, areas: &mut Bench) {
-        let unit = |erase: u32| if self.errs(Slip::PagesByEraseUnit) { erase as usize } else { geometry.page() };
+        let unit =
+            |erase: u32| if self.errs(Slip::PagesByEraseUnit) { erase as usize } else { geometry.page() };
         let pages = areas.active.len() / geometry.page();
         let first = if self.errs(Slip::PagesFromZero) { 0 } else { 1 };
         let first_dfu = if self.errs(Slip::DfuPagesFromOne) { 1 } else { pages + first };

@@ -270,7 +270,8 @@ pub fn large(judge: &mut Judge, _: &mut Random) {
     // erase sizes that share no divisor: pages of 1,048,575 and, past the limit, of 1,048,577 bytes
     for [ea, ed] in [[1023, 1025], [1025, 1023], [17, 61_681], [61_681, 17]] {
         let page = (ea * ed) as usize;
-        let unlike = Input { numbers: [ea, 1, ed, 1, 7, 1, 1], la: page, ld: 2 * page, ls: 7, magic: 0xF0, ..PLAIN };
+        let unlike =
+            Input { numbers: [ea, 1, ed, 1, 7, 1, 1], la: page, ld: 2 * page, ls: 7, magic: 0xF0, ..PLAIN };
         for budget in [0, 2000, 1_100_000] {
             table.ask(judge, Kind::PrepareBoot, &unlike, budget);
         }

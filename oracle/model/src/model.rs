@@ -215,8 +215,7 @@ impl Model {
             return false;
         }
         let run = Run::new(Wrong::Nothing, call, lent);
-        Model::RIGHT.state_of(run.word(0)) == SWAP
-            && run.confirming(lent.active.len() / call.geometry.page())
+        Model::RIGHT.state_of(run.word(0)) == SWAP && run.confirming(lent.active.len() / call.geometry.page())
     }
 
     fn refusal(&self, call: &Call, lent: &Lent) -> u8 {

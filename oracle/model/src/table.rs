@@ -72,7 +72,10 @@ impl Facts {
 
     /// P: the first multiple of one erase size that the other divides. Only asked where neither is 0.
     fn page(&self) -> u128 {
-        (1..).map(|i| i * self.ea).find(|page| page.is_multiple_of(self.ed)).expect("their product, at the latest")
+        (1..)
+            .map(|i| i * self.ea)
+            .find(|page| page.is_multiple_of(self.ed))
+            .expect("their product, at the latest")
     }
 
     /// N

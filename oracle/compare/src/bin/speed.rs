@@ -290,6 +290,65 @@ fn measure_growth(random: &mut Random) {
     }
 }
 
+const LARGE: usize = 8 * 1024 * 1024;
+const LARGE_DFU: usize = LARGE + PAGE;
+/// as many erase units as 4N + 3 words take
+const LARGE_STATE: usize = 9 * STATE;
+
+/// The areas of 8 MiB as the crate's own flash, altered. They lie behind one pointer each: no area is moved.
+struct LargeFlash {
+    active: Box<crate_mem_flash::MemFlash<LARGE, PAGE, WRITE>>,
+    dfu: Box<crate_mem_flash::MemFlash<LARGE_DFU, PAGE, WRITE>>,
+    state: Box<crate_mem_flash::MemFlash<LARGE_STATE, STATE, WORD>>,
+}
+
+/// A full swap of 8 MiB (request No. 10) beside the original and beside the plain fills and copies, by turns; and what a byte takes
+/// beside the swap of `small`. Fewer runs, since one takes long.
+fn measure_large(random: &mut Random, small: &Bench) {
+    let mut start = Bench {
+        active: random.bytes(LARGE),
+        dfu: random.bytes(LARGE_DFU),
+        state: vec![0xFF; LARGE_STATE],
+        out: Vec::new(),
+        last: NO_SECTOR,
+    };
+    start.state[..WORD].fill(0xF0);
+    let mut flash = LargeFlash {
+        active: Box::new(crate_mem_flash::MemFlash::new(0xFF)),
+        dfu: Box::new(crate_mem_flash::MemFlash::new(0xFF)),
+        state: Box::new(crate_mem_flash::MemFlash::new(0xFF)),
+    };
+    let mut times = [Vec::new(), Vec::new(), Vec::new(), Vec::new()];
+    for run in 0..5 + 1 {
+        flash.active.mem.copy_from_slice(&start.active);
+        flash.dfu.mem.copy_from_slice(&start.dfu);
+        flash.state.mem.copy_from_slice(&start.state);
+        let (mut plain, mut bench, mut few) = (start.clone(), start.clone(), small.clone());
+        let first = timed(|| Boot.original(&mut *flash.active, &mut *flash.dfu, &mut *flash.state));
+        let second = timed(|| plain_swap(black_box(&mut plain), PAGE));
+        let third = timed(|| Boot.library(&mut bench));
+        let fourth = timed(|| Boot.library(&mut few));
+        assert!(flash.active.mem[..] == bench.active && flash.dfu.mem[..] == bench.dfu, "8 MiB: two flashes");
+        assert!(plain.active == bench.active && plain.dfu == bench.dfu, "8 MiB: the plain swap");
+        // the first run only warms up
+        if run >= 1 {
+            for (list, time) in times.iter_mut().zip([first, second, third, fourth]) {
+                list.push(time);
+            }
+        }
+    }
+    let [original, plain, library, few] = times.map(median);
+    let per_byte = (library / LARGE as f64) / (few / ACTIVE as f64);
+    println!(
+        "\nfull swap of 8 MiB: original {original:.0}, fills and copies {plain:.0}, library {library:.0}"
+    );
+    println!(
+        "to the original {:.3}, to fills and copies {:.3}, a byte beside 512 KiB {per_byte:.3}",
+        library / original,
+        library / plain
+    );
+}
+
 fn main() {
     let mut random = Random::new(1);
     let mut empty = Bench {
@@ -332,4 +391,10 @@ fn main() {
     }
     measure_plain(&fresh);
     measure_growth(&mut random);
+    // the crate's flash is an array, made on the stack before it is boxed
+    let large = std::thread::Builder::new().stack_size(8 * LARGE);
+    std::thread::scope(|scope| {
+        let thread = large.spawn_scoped(scope, || measure_large(&mut random, &fresh)).expect("a thread");
+        thread.join().expect("a measurement");
+    });
 }
