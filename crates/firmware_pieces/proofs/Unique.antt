@@ -16,14 +16,8 @@ use Rattle.firmware_pieces.proofs.write_verdict.Kinds as write-verdict-
 use Rattle.firmware_pieces.proofs.write_verdict.Reads as write-verdict
 use Rattle.firmware_pieces.proofs.range.past_end.Kinds as past-end-kinds
 use Rattle.firmware_pieces.proofs.range.past_end.Reads as past-end
-use Rattle.firmware_pieces.proofs.range.bad_range.Kinds as bad-range-kinds
-use Rattle.firmware_pieces.proofs.range.bad_range.Reads as bad-range
 use Rattle.firmware_pieces.proofs.range.copy_out.Kinds as copy-out-kinds
 use Rattle.firmware_pieces.proofs.range.copy_out.Reads as copy-out
-use Rattle.firmware_pieces.proofs.pieces.is_last.Kinds as is-last-kinds
-use Rattle.firmware_pieces.proofs.pieces.is_last.Reads as is-last
-use Rattle.firmware_pieces.proofs.pieces.write_piece.Kinds as write-piece-kinds
-use Rattle.firmware_pieces.proofs.pieces.write_piece.Reads as write-piece
 use Rattle.firmware_pieces.proofs.pieces.write_pieces.Kinds as write-pieces-kinds
 use Rattle.firmware_pieces.proofs.pieces.write_pieces.Reads as write-pieces
 
@@ -44,19 +38,10 @@ write-verdict-unique κs a x y v w p q = (verdict-unique x y (p ∙ sym q), refl
 pub past-end-unique : OneResult past-end-kinds.ps past-end-kinds.r past-end.Post
 past-end-unique κs a x y v w p q = (p ∙ sym q, refl)
 
-pub bad-range-unique : OneResult bad-range-kinds.ps bad-range-kinds.r bad-range.Post
-bad-range-unique κs a x y v w p q = (p ∙ sym q, refl)
-
 -- what the buffer holds
 pub copy-out-unique : OneResult copy-out-kinds.ps copy-out-kinds.r copy-out.Post
 copy-out-unique κs a x y v w p q = (refl, ap (λ (xs : List ℕ). (xs, (tt, (tt, tt)))) (p ∙ sym q))
 
-pub is-last-unique : OneResult is-last-kinds.ps is-last-kinds.r is-last.Post
-is-last-unique κs a x y v w p q = (p ∙ sym q, refl)
-
 -- the memory, whether it goes on, and DFU
-pub write-piece-unique : OneResult write-piece-kinds.ps write-piece-kinds.r write-piece.Post
-write-piece-unique κs a x y v w p q = let e = wrote-unique x y (p .0) (q .0) in (e .0, ap (λ (xs : List ℕ). (xs, (tt, (tt, (tt, (tt, (tt, tt))))))) (e .1))
-
 pub write-pieces-unique : OneResult write-pieces-kinds.ps write-pieces-kinds.r write-pieces.Post
 write-pieces-unique κs a x y v w p q = let e = wrote-unique x y p q in (e .0, ap (λ (xs : List ℕ). (xs, (tt, (tt, (tt, (tt, (tt, tt))))))) (e .1))
