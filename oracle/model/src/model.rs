@@ -624,3 +624,35 @@ fn revert_copies(pages: usize, order: &[usize]) -> Vec<Copy> {
     };
     order.iter().enumerate().flat_map(both).collect()
 }
+
+#[cfg(test)]
+mod tests {
+    use super::*;
+    use call::{Bench, operations_of};
+
+    /// Two pages of one byte, steps 0, 2 and 3 marked and step 1 not: done marks beyond a gap.
+    fn beyond_a_gap(wrong: Wrong) -> (u32, Bench) {
+        let geometry = Geometry { ea: 1, wa: 1, ed: 1, wd: 1, es: 1, ws: 1, b: 1 };
+        let call = Call { kind: Kind::PrepareBoot, geometry, budget: 100, offset: 0, data: &[] };
+        let mut state = vec![0xFF; 11];
+        state[..6].copy_from_slice(&[0xF0, 0xFF, 0x00, 0xFF, 0x00, 0x00]);
+        let mut bench = Bench { active: vec![20, 11], dfu: vec![20, 10, 11], state, ..Bench::default() };
+        let answer = Model { wrong }.answer(&call, bench.lend());
+        (operations_of(answer), bench)
+    }
+
+    #[test]
+    fn marks_beyond_a_gap_count_once_it_closes() {
+        let (operations, left) = beyond_a_gap(Wrong::Nothing);
+        assert_eq!(operations, 3);
+        assert_eq!((left.active, left.dfu), (vec![20, 10], vec![20, 10, 11]));
+    }
+
+    /// A counter goes on with steps 2 and 3, and the page that DFU kept is lost.
+    #[test]
+    fn a_counter_copies_over_what_is_done() {
+        let (operations, left) = beyond_a_gap(Wrong::ProgressReadOnce);
+        assert_eq!(operations, 9);
+        assert_eq!((left.active, left.dfu), (vec![20, 10], vec![20, 20, 11]));
+    }
+}

@@ -255,11 +255,11 @@ fn measure_plain(fresh: &Bench) {
     );
 }
 
-/// A full swap of n pages of 512 bytes, with words of ws bytes: microseconds per page.
-fn per_page(random: &mut Random, n: usize, ws: usize) -> f64 {
-    let page = 512;
+/// A full swap of n pages, with words of ws bytes: microseconds per page. A state unit has four words.
+fn per_page(random: &mut Random, n: usize, page: usize, ws: usize) -> f64 {
     let state = (4 * n + 4) * ws;
-    let geometry = Geometry { ea: 512, wa: 4, ed: 512, wd: 4, es: state as u32, ws: ws as u32, b: 256 };
+    let (unit, es) = (page as u32, 4 * ws as u32);
+    let geometry = Geometry { ea: unit, wa: 4, ed: unit, wd: 4, es, ws: ws as u32, b: unit / 2 };
     let mut start = Bench {
         active: random.bytes(n * page),
         dfu: random.bytes((n + 1) * page),
@@ -280,13 +280,14 @@ fn per_page(random: &mut Random, n: usize, ws: usize) -> f64 {
     median(times.collect()) / n as f64
 }
 
+/// 4,096 pages fit in the longest area only if they are small.
 fn measure_growth(random: &mut Random) {
-    println!(
-        "\nfull swap, microseconds per page of 512 bytes (the progress is read from the first mark before each step)"
-    );
-    println!("{:<10} {:>14} {:>14}", "pages", "1-byte words", "4-byte words");
-    for n in [8, 32, 128, 512, 1024] {
-        println!("{n:<10} {:>14.3} {:>14.3}", per_page(random, n, 1), per_page(random, n, 4));
+    for (page, counts) in [(512, &[8, 32, 128, 512, 1024][..]), (128, &[8, 32, 128, 512, 1024, 4096])] {
+        println!("\nfull swap, microseconds per page of {page} bytes");
+        println!("{:<10} {:>14} {:>14}", "pages", "1-byte words", "4-byte words");
+        for &n in counts {
+            println!("{n:<10} {:>14.3} {:>14.3}", per_page(random, n, page, 1), per_page(random, n, page, 4));
+        }
     }
 }
 
