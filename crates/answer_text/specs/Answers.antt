@@ -2,68 +2,60 @@
 use mathlib.Core.Path.{_≡_}
 use mathlib.Core.List.{List, [], _∷_, _++_}
 use mathlib.Core.Option.{Option, none, some}
-use Prim.Native.Nat.{ℕ, _+_, _*_, _/_, _%_, _≤_}
-use lib.ListN.{length, take}
-use Rattle.io.specs.Digits.{glyph, digits, Fewest}
+use Prim.Native.Nat.{ℕ, zero, suc, _+_, _/_, _%_}
+use lib.Dec.{ltb}
+use lib.ListN.{length, take, drop}
+use Rattle.io.specs.Digits.{glyph}
 use Rattle.state.specs.declared.State.{State}
 use Rattle.state.specs.declared.State.the-variants.{Boot, Swap, Revert, DfuDetach}
+use Rattle.state.specs.Choice.{pick}
 use Rattle.rules.specs.Calls.{Report}
 use Rattle.lines.specs.declared.Command.{Command}
 use Rattle.numerals.specs.Text.{space}
 use Rattle.lines.specs.Lines.{lineFeed}
 use Rattle.lines.specs.Grammar.{nameOf}
 
--- n in decimal, with no more digits than it has
-pub record Decimal (n : ℕ) (text : List ℕ) : Type 0 where
-  pub fewest : Fewest 10 1 n (length text)
-  pub text-is : text ≡ digits 10 (length text) n
+-- n in decimal, where it has at most so many digits: n itself, or the last digit after those of a tenth of n
+unfoldable pub decimalIn : ℕ → ℕ → List ℕ
+decimalIn zero n = []
+decimalIn (suc k) n = pick (ltb n 10) (glyph n ∷ []) (decimalIn k (n / 10) ++ (glyph (n % 10) ∷ []))
+
+-- n in decimal: it never has more than n + 1 digits
+unfoldable pub decimal : ℕ → List ℕ
+decimal n = decimalIn (suc n) n
+
+-- the number of a state
+unfoldable pub stateNumber : State → ℕ
+stateNumber Boot = 0
+stateNumber Swap = 1
+stateNumber Revert = 2
+stateNumber DfuDetach = 3
 
 -- a state by its number, and `-` where there is none
-abbrev pub stateText : Option State → ℕ
+unfoldable pub stateText : Option State → ℕ
 stateText none = 45
-stateText (some Boot) = 48
-stateText (some Swap) = 49
-stateText (some Revert) = 50
-stateText (some DfuDetach) = 51
+stateText (some s) = glyph (stateNumber s)
 
 -- a command's line: its name, the answer's number, the state or `-`, the operations
-pub record Answered (c : Command) (t : Report) (text : List ℕ) : Type 0 where
-  pub number : List ℕ
-  pub count : List ℕ
-  pub number-is : Decimal (t .number) number
-  pub count-is : Decimal (t .count) count
-  pub text-is :
-      text ≡ nameOf c ++ (space ∷ number ++ (space ∷ stateText (t .state) ∷ space ∷ count ++ (lineFeed ∷ [])))
+unfoldable pub commandText : Command → Report → List ℕ
+commandText c t =
+    nameOf c ++ (space ∷ decimal (t .number) ++ (space ∷ stateText (t .state) ∷ space ∷ decimal (t .count) ++ (lineFeed ∷ [])))
 
 -- `bad line ` and the line's number
 abbrev pub badLine : List ℕ
 badLine = 98 ∷ 97 ∷ 100 ∷ 32 ∷ 108 ∷ 105 ∷ 110 ∷ 101 ∷ 32 ∷ []
 
-pub record BadLine (n : ℕ) (text : List ℕ) : Type 0 where
-  pub number : List ℕ
-  pub number-is : Decimal n number
-  pub text-is : text ≡ badLine ++ (number ++ (lineFeed ∷ []))
+unfoldable pub badLineText : ℕ → List ℕ
+badLineText n = badLine ++ (decimal n ++ (lineFeed ∷ []))
 
 -- two hexadecimal digits for each byte
 unfoldable pub hexOf : List ℕ → List ℕ
 hexOf [] = []
 hexOf (b ∷ bs) = glyph (b / 16) ∷ glyph (b % 16) ∷ hexOf bs
 
--- ---- how the texts are put together
+-- ---- how a text is put into a buffer
 
--- r bytes stand in `out′`: the n that stood in `out`, and then these
+-- these bytes were put at n, up to r, and the buffer is otherwise as it was
 pub record Put (out : List ℕ) (n : ℕ) (bytes out′ : List ℕ) (r : ℕ) : Type 0 where
   pub count : r ≡ n + length bytes
-  pub text : take r out′ ≡ take n out ++ bytes
-
--- the same of a number's text, which has at most 20 bytes
-pub record PutNumber (out : List ℕ) (n x : ℕ) (out′ : List ℕ) (r : ℕ) : Type 0 where
-  pub bytes : List ℕ
-  pub is : Decimal x bytes
-  pub short : length bytes ≤ 20
-  pub put : Put out n bytes out′ r
-
--- r bytes stand in `out′`: these, in hexadecimal
-pub record Hex (bytes out′ : List ℕ) (r : ℕ) : Type 0 where
-  pub count : r ≡ 2 * length bytes
-  pub text : take r out′ ≡ hexOf bytes
+  pub all : out′ ≡ (take n out ++ bytes) ++ drop (n + length bytes) out

@@ -7,7 +7,7 @@ ghost use Rattle.io.specs.Counts.{Counts};
 ghost use Rattle.io.specs.Digits.{glyph};
 ghost use Rattle.rules.specs.Calls.{reported};
 ghost use Rattle.lines.specs.Grammar.{nameOf};
-ghost use Rattle.answer_text.specs.Answers.{stateText, Answered, BadLine, hexOf, Hex, Put, PutNumber};
+ghost use Rattle.answer_text.specs.Answers.{decimal, stateText, commandText, badLineText, hexOf, Put};
 use lines::Command;
 use rules::Answer;
 use state::State;
@@ -75,7 +75,8 @@ fn put(out: &mut [u8], n: usize, bytes: &[u8]) -> usize
     n + i
 }
 
-fn put_bytes(out: &mut [u8; 64], n: usize, bytes: &[u8]) -> usize
+// The caller sees to the room.
+pub fn put_bytes(out: &mut [u8; 64], n: usize, bytes: &[u8]) -> usize
     requires { ⌜ n + length (now bytes) ≤ 64 ⌝ }
     ensures { λ r. ⌜ Put (now (out .entry)) n (now (bytes .entry)) (now (out .exit)) r ⌝ }
     ensures { λ r. ⌜ Counts r (now (out .exit)) ⌝ }
@@ -85,7 +86,7 @@ fn put_bytes(out: &mut [u8; 64], n: usize, bytes: &[u8]) -> usize
 
 fn put_number(out: &mut [u8; 64], n: usize, x: u64) -> usize
     requires { ⌜ n + 20 ≤ 64 ⌝ }
-    ensures { λ r. ⌜ PutNumber (now (out .entry)) n x (now (out .exit)) r ⌝ }
+    ensures { λ r. ⌜ Put (now (out .entry)) n (decimal x) (now (out .exit)) r × (r ≤ n + 20) ⌝ }
 {
     let mut digits = [0u8; 20];
     let k = io::decimal(x, &mut digits);
@@ -105,7 +106,7 @@ fn put_name(out: &mut [u8; 64], command: Command) -> usize
 // A command's line.
 pub fn command_text(command: Command, answer: Answer, out: &mut [u8; 64]) -> usize
     ensures { λ r. ⌜ Counts r (now (out .exit)) ⌝ }
-    ensures { λ r. ⌜ Answered command (reported answer) (take r (now (out .exit))) ⌝ }
+    ensures { λ r. ⌜ Put (now (out .entry)) 0 (commandText command (reported answer)) (now (out .exit)) r ⌝ }
 {
     let told = tell(answer);
     let a = put_name(out, command);
@@ -119,7 +120,7 @@ pub fn command_text(command: Command, answer: Answer, out: &mut [u8; 64]) -> usi
 // The line that says which line is bad.
 pub fn bad_line_text(line: u64, out: &mut [u8; 64]) -> usize
     ensures { λ r. ⌜ Counts r (now (out .exit)) ⌝ }
-    ensures { λ r. ⌜ BadLine line (take r (now (out .exit))) ⌝ }
+    ensures { λ r. ⌜ Put (now (out .entry)) 0 (badLineText line) (now (out .exit)) r ⌝ }
 {
     let a = put_bytes(out, 0, b"bad line ");
     let b = put_number(out, a, line);
@@ -137,7 +138,7 @@ fn digit(x: u8) -> u8
 
 fn hex(bytes: &[u8], out: &mut [u8]) -> usize
     requires { ⌜ 2 * length (now bytes) ≤ length (now out) ⌝ }
-    ensures { λ r. ⌜ Hex (now (bytes .entry)) (now (out .exit)) r ⌝ }
+    ensures { λ r. ⌜ Put (now (out .entry)) 0 (hexOf (now (bytes .entry))) (now (out .exit)) r ⌝ }
 {
     let mut n = 0;
     let mut i = 0;
@@ -152,7 +153,7 @@ fn hex(bytes: &[u8], out: &mut [u8]) -> usize
 // The first 32 bytes, or all of them, two digits each.
 pub fn hex_text(bytes: &[u8], out: &mut [u8; 64]) -> usize
     ensures { λ r. ⌜ Counts r (now (out .exit)) ⌝ }
-    ensures { λ r. ⌜ take r (now (out .exit)) ≡ hexOf (take 32 (now (bytes .entry))) ⌝ }
+    ensures { λ r. ⌜ Put (now (out .entry)) 0 (hexOf (take 32 (now (bytes .entry)))) (now (out .exit)) r ⌝ }
 {
     if bytes.len() <= 32 {
         return hex(bytes, out);

@@ -1,72 +1,110 @@
--- Laws of the images and the commands, for `fill` and `call`. Assumes nothing.
+-- Laws of the areas and the commands. Assumes nothing.
 use mathlib.Core.Path.{_≡_, refl, ap, sym, _∙_}
-use mathlib.Core.List.{List, []}
-use Prim.Native.Nat.{ℕ, _+_, _/_, _%_, _<_}
+use mathlib.Core.Bool.{Bool, true, false}
+use mathlib.Core.List.{List, [], _∷_, _++_}
+use mathlib.Core.Option.{none}
+use Prim.Native.Nat.{ℕ, zero, suc, _+_, _/_, _%_, _≤_, _<_}
 use native.Mathlib.Omega.{arith}
-use lib.ListN.{length, getD, set}
-use lib.Seq.{getD-set-same, getD-set-other}
+use lib.Dec.{eqb}
+use lib.ListN.{length, getD, set, take, drop, length-replicate, getD-replicate}
+use lib.Seq.{getD-set-same, getD-set-other, ext-getD, take-at, drop-at}
 use borrow.Author.Count.{below-more}
+use borrow.Author.Tests.{eqb-true, eqb-false, ne-eqb}
 use Rattle.state.specs.declared.State.{State}
 use Rattle.state.specs.declared.State.the-variants as state
+use Rattle.state.specs.Choice.{pick}
+use Rattle.state.specs.Magic.{erased, magic, throughout}
 use Rattle.geometry.specs.declared.Geometry.{Geometry}
+use Rattle.geometry.specs.declared.StateSizes.{StateSizes}
 use Rattle.geometry.specs.declared.Verdict.{Verdict}
 use Rattle.geometry.specs.declared.Verdict.the-variants as verdicts
 use Rattle.geometry.specs.declared.Refusal.{Refusal}
-use Rattle.geometry.specs.declared.StateSizes.{StateSizes}
-use Rattle.geometry.specs.Geometry.{page}
-use Rattle.geometry.specs.Refusals.{verdict, bootRefusal}
+use Rattle.geometry.specs.Geometry.{page, pages}
+use Rattle.geometry.specs.Refusals.{number, verdict, bootRefusal}
 use Rattle.geometry.proofs.Tests.{number-some}
 use Rattle.geometry.proofs.PageSize.{page-some}
 use Rattle.geometry.proofs.Rows.{admitted}
+use Rattle.mem_flash.specs.Flash.{Flash, Op, erase, write, change, apply, applyAll, after, unitOps, eraseOps}
+use Rattle.mem_flash.specs.Flash as areas
 use Rattle.mem_flash.specs.Run.{flash}
 use Rattle.rules.specs.declared.Answer.{Answer}
-use Rattle.rules.specs.Calls.{Did}
-use Rattle.rules.specs.Boot.{prepareBoot}
-use Rattle.rules.specs.FirmwareState.{mark}
+use Rattle.rules.specs.StateArea.{word, valid, invalidateOp, magicOp}
+use Rattle.rules.specs.declared.Answer.the-variants as answers
+use Rattle.rules.specs.Calls.{Call, Did, report, reported, left}
+use Rattle.rules.specs.Boot.{renewOps, prepareBoot}
+use Rattle.rules.specs.FirmwareState.{setMagicOps, mark}
 use Rattle.lines.specs.declared.Lengths.{Lengths}
 use Rattle.lines.specs.declared.Command.{Command}
 use Rattle.lines.specs.declared.Command.the-variants.{Update, Booted, Boot}
-use Rattle.bench_images.specs.Images.{Started, Begun, Marked, Obeyed}
+use Rattle.lines.specs.Lines.{mostLength}
+use Rattle.lines.specs.Grammar.{numberOf}
+use Rattle.bench_images.specs.Images.{filledFrom, filled, blank, startOf, callOf, benchCall, used, Fit, Begun, Obeyed}
 
--- one more byte is filled
-pub filled-more : (size before i b : ℕ) (area : List ℕ) → i < length area → b ≡ (before + i / size + 1) % 256
-    → ((j : ℕ) → j < i → getD area j 0 ≡ (before + j / size + 1) % 256)
-    → (j : ℕ) → j < i + 1 → getD (set area i b) j 0 ≡ (before + j / size + 1) % 256
-filled-more size before i b area h e all =
-    below-more (λ j. getD (set area i b) j 0 ≡ (before + j / size + 1) % 256) i
+-- ---- filling
+
+-- one more byte is set
+pub set-more : (f : ℕ → ℕ) (i b : ℕ) (area : List ℕ) → i < length area → b ≡ f i → ((j : ℕ) → j < i → getD area j 0 ≡ f j)
+    → (j : ℕ) → j < i + 1 → getD (set area i b) j 0 ≡ f j
+set-more f i b area h e all =
+    below-more (λ j. getD (set area i b) j 0 ≡ f j) i
     (λ j l. getD-set-other area i j b 0 (λ q. omega arith) ∙ all j l)
     (getD-set-same area i b 0 h ∙ e)
 
--- ---- the firmware state's record has the geometry's sizes
+filled-length : (size before i n : ℕ) → length (filledFrom size before i n) ≡ n
+unfolding filledFrom
+filled-length size before i zero = refl
+filled-length size before i (suc n) = ap suc (filled-length size before (suc i) n)
 
-module _ (g : Geometry) (z : StateSizes) (same : z ≡ g .state) where
-  marked : (s : State) (k : ℕ) (a d st st′ : List ℕ) (r : Answer)
-      → Did (mark s z st) k (flash [] [] st) (flash [] [] st′) r → Marked s g k (flash a d st) (flash a d st′) r
-  marked s k a d st st′ r h = record { did = rw (← same) h; active = refl; dfu = refl }
+filled-at : (size before i n j : ℕ) → j < n → getD (filledFrom size before i n) j 0 ≡ (before + (i + j) / size + 1) % 256
+unfolding filledFrom
+filled-at size before i zero j h = absurd (omega arith)
+filled-at size before i (suc n) zero h =
+    let e : i + 0 ≡ i = omega arith in
+    rw e refl
+filled-at size before i (suc n) (suc j) h =
+    let e : i + suc j ≡ suc i + j = omega arith in
+    rw e (filled-at size before (suc i) n j (omega arith))
 
-  pub obeyed-update : (command : Command) (k : ℕ) (a d st st′ : List ℕ) (r : Answer) → command ≡ Update k
-      → Did (mark state.Swap z st) k (flash [] [] st) (flash [] [] st′) r → Obeyed g command (flash a d st) (flash a d st′) r
-  unfolding Obeyed
-  obeyed-update command k a d st st′ r e h = rw e (marked state.Swap k a d st st′ r h)
+pub all-filled : (size before : ℕ) (area : List ℕ) → ((j : ℕ) → j < length area → getD area j 0 ≡ (before + j / size + 1) % 256)
+    → area ≡ filled size before (length area)
+unfolding filled
+all-filled size before area h =
+    ext-getD 0 area (filledFrom size before 0 (length area)) (sym (filled-length size before 0 (length area)))
+    (λ j l. h j l ∙ sym (filled-at size before 0 (length area) j l ∙ zero-place size before j))
+  where
+    zero-place : (size before j : ℕ) → (before + (0 + j) / size + 1) % 256 ≡ (before + j / size + 1) % 256
+    zero-place size before j = let e : 0 + j ≡ j = omega arith in rw e refl
 
-  pub obeyed-booted : (command : Command) (k : ℕ) (a d st st′ : List ℕ) (r : Answer) → command ≡ Booted k
-      → Did (mark state.Boot z st) k (flash [] [] st) (flash [] [] st′) r → Obeyed g command (flash a d st) (flash a d st′) r
-  unfolding Obeyed
-  obeyed-booted command k a d st st′ r e h = rw e (marked state.Boot k a d st st′ r h)
+pub all-blank : (area : List ℕ) → ((j : ℕ) → j < length area → getD area j 0 ≡ erased) → area ≡ blank (length area)
+all-blank area h =
+    ext-getD 0 area (blank (length area)) (sym (length-replicate (length area) erased))
+    (λ j l. h j l ∙ sym (getD-replicate (length area) j erased 0 l))
 
-pub obeyed-boot : (g h : Geometry) (command : Command) (k : ℕ) (a d st a′ d′ st′ : List ℕ) (r : Answer) → h ≡ g → command ≡ Boot k
-    → Did (prepareBoot h (flash a d st)) k (flash a d st) (flash a′ d′ st′) r → Obeyed g command (flash a d st) (flash a′ d′ st′) r
-unfolding Obeyed
-obeyed-boot g h command k a d st a′ d′ st′ r e q p = rw (q, ← e) p
+-- the first of them
+take-from : (size before i n m : ℕ) → n ≤ m → take n (filledFrom size before i m) ≡ filledFrom size before i n
+unfolding filledFrom
+take-from size before i zero m h = refl
+take-from size before i (suc n) zero h = absurd (omega arith)
+take-from size before i (suc n) (suc m) h = ap (λ (x : List ℕ). (before + i / size + 1) % 256 ∷ x) (take-from size before (suc i) n m (omega arith))
+
+take-filled : (size before n m : ℕ) → n ≤ m → take n (filled size before m) ≡ filled size before n
+unfolding filled
+take-filled size before n m h = take-from size before 0 n m h
+
+take-blank : (n m : ℕ) → n ≤ m → take n (blank m) ≡ blank n
+take-blank zero m h = refl
+take-blank (suc n) zero h = absurd (omega arith)
+take-blank (suc n) (suc m) h = ap (λ (x : List ℕ). erased ∷ x) (take-blank n m (omega arith))
 
 -- ---- the first two lines
 
 module _ (g : Geometry) (l : Lengths) (v : Verdict) (judged : verdict v ≡ bootRefusal g (l .active) (l .dfu) (l .state)) where
-  pub begun-refused : (a d : List ℕ) (why : Refusal) → v ≡ verdicts.Refused why → Begun g l a d a d v
+  pub begun-refused : (a d s : List ℕ) (why : Refusal) → v ≡ verdicts.Refused why → a ≡ blank mostLength → d ≡ blank mostLength
+      → s ≡ blank mostLength → Begun g l a d s v
   unfolding verdict
-  begun-refused a d why e =
+  begun-refused a d s why e x y z =
       let h : 0 < verdict v = rw e (number-some why) in
-      record { judged = judged; started = λ z. absurd (omega arith); refused = λ p. (refl, refl) }
+      record { judged = judged; started = λ n. absurd (omega arith); refused = λ p. (x, y); state = z }
 
   module _ (admits : v ≡ verdicts.Admitted) where
     none-refused : verdict v ≡ 0
@@ -76,6 +114,150 @@ module _ (g : Geometry) (l : Lengths) (v : Verdict) (judged : verdict v ≡ boot
     pub page-there : 0 < page g
     page-there = page-some (admitted g (l .active) (l .dfu) (l .state) (sym judged ∙ none-refused) .numbers)
 
-    pub begun-admitted : (size : ℕ) (a d a′ d′ : List ℕ) → size ≡ page g → Started size (l .active) a′ d′ → Begun g l a d a′ d′ v
-    begun-admitted size a d a′ d′ e s =
-        record { judged = judged; started = λ z. rw (← e) s; refused = λ p. absurd (omega (arith, none-refused)) }
+    pub begun-admitted : (size : ℕ) (a d s : List ℕ) → size ≡ page g → a ≡ filled size 0 mostLength
+        → d ≡ filled size (l .active / size) mostLength → s ≡ blank mostLength → Begun g l a d s v
+    unfolding pages
+    begun-admitted size a d s e x y z =
+        record { judged = judged; started = λ n. rw (← e) (x, y); refused = λ p. absurd (omega (arith, none-refused)); state = z }
+
+-- the part that is used starts as it is said to
+start-by : (t : Bool) (g : Geometry) (l : Lengths) (a d s : List ℕ) (v : Verdict) → eqb (bootRefusal g (l .active) (l .dfu) (l .state)) 0 ≡ t
+    → Begun g l a d s v → Fit l
+    → used l a d s
+    ≡ pick t
+    (flash (filled (page g) 0 (l .active)) (filled (page g) (pages g (l .active)) (l .dfu)) (blank (l .state)))
+    (flash (blank (l .active)) (blank (l .dfu)) (blank (l .state)))
+unfolding pick
+start-by true g l a d s v e b f =
+    let p = b .started (b .judged ∙ eqb-true _ _ e) in
+    rw (
+      p .0,
+      p .1,
+      b .state,
+      take-filled (page g) 0 (l .active) mostLength (f .active),
+      take-filled (page g) (pages g (l .active)) (l .dfu) mostLength (f .dfu),
+      take-blank (l .state) mostLength (f .state),
+    ) refl
+start-by false g l a d s v e b f =
+    let n : bootRefusal g (l .active) (l .dfu) (l .state) ≡ 0 → ⊥ = eqb-false _ _ e in
+    let p = b .refused (some-number _ (λ z. n (sym (b .judged) ∙ z))) in
+    rw (
+      p .0,
+      p .1,
+      b .state,
+      take-blank (l .active) mostLength (f .active),
+      take-blank (l .dfu) mostLength (f .dfu),
+      take-blank (l .state) mostLength (f .state),
+    ) refl
+  where
+    some-number : (n : ℕ) → (n ≡ 0 → ⊥) → 0 < n
+    some-number zero h = absurd (h refl)
+    some-number (suc n) h = omega arith
+
+pub start-used : (g : Geometry) (l : Lengths) (a d s : List ℕ) (v : Verdict) → Begun g l a d s v → Fit l → used l a d s ≡ startOf g l
+unfolding startOf
+start-used g l a d s v b f = start-by _ g l a d s v refl b f
+
+-- ---- a mark changes the state area alone
+
+data InState : List Op → Type 0 where
+  no-ops : InState []
+  erases : {from n : ℕ} {os : List Op} → InState os → InState (erase areas.state from n ∷ os)
+  writes : {at : ℕ} {bs : List ℕ} {os : List Op} → InState os → InState (write areas.state at bs ∷ os)
+
+in-both : {os ps : List Op} → InState os → InState ps → InState (os ++ ps)
+in-both no-ops q = q
+in-both (erases p) q = erases (in-both p q)
+in-both (writes p) q = writes (in-both p q)
+
+in-pick : (t : Bool) {os ps : List Op} → InState os → InState ps → InState (pick t os ps)
+unfolding pick
+in-pick true p q = p
+in-pick false p q = q
+
+in-units : (n unit from : ℕ) → InState (unitOps n unit areas.state from)
+unfolding unitOps
+in-units zero unit from = no-ops
+in-units (suc n) unit from = erases (in-units n unit (from + unit))
+
+in-mark : (z : StateSizes) (m : ℕ) (st : List ℕ) → InState (setMagicOps z m st)
+unfolding setMagicOps renewOps eraseOps invalidateOp magicOp
+in-mark z m st =
+    in-pick (throughout m (word z 0 st)) no-ops
+    (in-both (in-pick (valid z st) (writes no-ops) no-ops) (in-both (in-units (length st / z .es) (z .es) 0) (writes no-ops)))
+
+after-state : (k : ℕ) (os : List Op) (a d st : List ℕ) → InState os
+    → applyAll (take k os) (flash a d st) ≡ flash a d (applyAll (take k os) (flash [] [] st) .state)
+unfolding applyAll apply change
+after-state zero os a d st p = refl
+after-state (suc k) [] a d st p = refl
+after-state (suc k) (o ∷ os) a d st (erases p) = after-state k os a d _ p
+after-state (suc k) (o ∷ os) a d st (writes p) = after-state k os a d _ p
+
+left-by : (t : Bool) (k : ℕ) (os : List Op) (a d st : List ℕ) → InState os
+    → pick t (after k os (flash a d st)) (flash a d st) ≡ flash a d (pick t (after k os (flash [] [] st)) (flash [] [] st) .state)
+unfolding pick after
+left-by true k os a d st p = after-state k os a d st p
+left-by false k os a d st p = refl
+
+did-mark : (s : State) (z : StateSizes) (k : ℕ) (a d st st′ : List ℕ) (r : Answer) → Did (mark s z st) k (flash [] [] st) (flash [] [] st′) r
+    → Did (mark s z st) k (flash a d st) (flash a d st′) r
+unfolding mark left
+did-mark s z k a d st st′ r h =
+    record {
+      answer = h .answer;
+      flash = ap (λ (f : Flash). flash a d (f .state)) (h .flash) ∙ sym (left-by _ k _ a d st (in-mark z (magic s) st));
+    }
+
+-- ---- the calls, with the geometry's sizes
+
+module _ (g : Geometry) (z : StateSizes) (same : z ≡ g .state) (command : Command) (k : ℕ) (a d st st′ : List ℕ) (r : Answer) where
+  pub did-update : command ≡ Update k → Did (mark state.Swap z st) k (flash [] [] st) (flash [] [] st′) r
+      → Did (callOf g command (flash a d st)) (numberOf command) (flash a d st) (flash a d st′) r
+  unfolding callOf
+  did-update e h = rw (e, ← same) (did-mark state.Swap z k a d st st′ r h)
+
+  pub did-booted : command ≡ Booted k → Did (mark state.Boot z st) k (flash [] [] st) (flash [] [] st′) r
+      → Did (callOf g command (flash a d st)) (numberOf command) (flash a d st) (flash a d st′) r
+  unfolding callOf
+  did-booted e h = rw (e, ← same) (did-mark state.Boot z k a d st st′ r h)
+
+pub did-boot : (g h : Geometry) (command : Command) (k : ℕ) (f f′ : Flash) (r : Answer) → h ≡ g → command ≡ Boot k
+    → Did (prepareBoot h f) k f f′ r → Did (callOf g command f) (numberOf command) f f′ r
+unfolding callOf
+did-boot g h command k f f′ r e q p = rw (q, ← e) p
+
+-- ---- the parts that are lent
+
+pub parts-obeyed : (call : Call) (k : ℕ) (l : Lengths) (a d s a′ d′ s′ : List ℕ) (r : Answer)
+    → length a′ ≡ l .active → length d′ ≡ l .dfu → length s′ ≡ l .state → Did call k (used l a d s) (flash a′ d′ s′) r
+    → Obeyed call k l a d s (a′ ++ drop (l .active) a) (d′ ++ drop (l .dfu) d) (s′ ++ drop (l .state) s) r
+parts-obeyed call k l a d s a′ d′ s′ r x y z h =
+    record {
+      did = rw (take-at a′ (drop (l .active) a) (l .active) x, take-at d′ (drop (l .dfu) d) (l .dfu) y, take-at s′ (drop (l .state) s) (l .state) z) h;
+      active = drop-at a′ (drop (l .active) a) (l .active) x;
+      dfu = drop-at d′ (drop (l .dfu) d) (l .dfu) y;
+      state = drop-at s′ (drop (l .state) s) (l .state) z;
+    }
+
+-- ---- where a boot is refused, and where it is not
+
+module _ (g : Geometry) (v : Verdict) (c : Command) (k : ℕ) (f : Flash) where
+  pub call-admitted : v ≡ verdicts.Admitted → benchCall g (verdict v) c f ≡ callOf g c f
+  unfolding benchCall verdict pick
+  call-admitted e = rw e refl
+
+  refused-by : (n : ℕ) → 0 < n → (why : Refusal) → number why ≡ n
+      → Did (pick (eqb n 0) (callOf g c f) (record { refusal = n; state = none; ops = [] })) k f f (answers.Refused why)
+  unfolding pick report left reported
+  refused-by n h why e =
+      let z : eqb n 0 ≡ false = ne-eqb n 0 (λ q. omega arith) in
+      rw z (record { answer = rw (z, e) refl; flash = rw z refl })
+
+  pub did-refused : (why : Refusal) → v ≡ verdicts.Refused why → Did (benchCall g (verdict v) c f) k f f (answers.Refused why)
+  unfolding benchCall verdict
+  did-refused why e = rw e (refused-by (number why) (number-some why) why refl)
+
+pub nothing-obeyed : (call : Call) (k : ℕ) (l : Lengths) (a d s : List ℕ) (r : Answer) → Did call k (used l a d s) (used l a d s) r
+    → Obeyed call k l a d s a d s r
+nothing-obeyed call k l a d s r h = record { did = h; active = refl; dfu = refl; state = refl }

@@ -1,8 +1,13 @@
-// The three areas of the bench program: how the images start, and what a command does. What is promised is in specs/Images.
+// The three areas of the bench program: how they start, and what a command does. What is promised is in specs/Images.
 ghost use mathlib.Core.Path.{_≡_};
-ghost use Prim.Native.Nat.{_+_, _%_, _<_};
+ghost use Prim.Native.Nat.{_+_, _%_, _<_, _≤_};
+ghost use lib.ListN.{length};
+ghost use Rattle.geometry.specs.Refusals.{verdict};
 ghost use Rattle.mem_flash.specs.Run.{flash};
-ghost use Rattle.bench_images.specs.Images.{Filled, Started, Begun, Obeyed};
+ghost use Rattle.rules.specs.Calls.{Did};
+ghost use Rattle.lines.specs.Lines.{mostLength};
+ghost use Rattle.lines.specs.Grammar.{numberOf};
+ghost use Rattle.bench_images.specs.Images.{filled, blank, callOf, benchCall, used, Fit, Begun, Obeyed};
 use boot_loader::BootLoader;
 use firmware_state::BlockingFirmwareState;
 use geometry::Geometry;
@@ -32,7 +37,7 @@ fn page_byte(before: usize, page: usize) -> u8
 // Fills the pages of an area that stand after `before` others.
 fn fill(area: &mut [u8], size: usize, before: usize)
     requires { ⌜ 0 < size ⌝ }
-    ensures { λ _. ⌜ Filled size before (now (area .exit)) ⌝ }
+    ensures { λ _. ⌜ now (area .exit) ≡ filled size before (length (now (area .entry))) ⌝ }
 {
     let mut i = 0;
     while i < area.len() {
@@ -41,36 +46,72 @@ fn fill(area: &mut [u8], size: usize, before: usize)
     }
 }
 
-// DFU's pages go on counting where active's end.
-fn start(size: usize, la: usize, active: &mut [u8; MOST], dfu: &mut [u8; MOST])
-    requires { ⌜ 0 < size ⌝ }
-    ensures { λ _. ⌜ Started size la (now (active .exit)) (now (dfu .exit)) ⌝ }
+fn wipe(area: &mut [u8])
+    ensures { λ _. ⌜ now (area .exit) ≡ blank (length (now (area .entry))) ⌝ }
 {
-    fill(active, size, 0);
-    fill(dfu, size, la / size);
+    let mut i = 0;
+    while i < area.len() {
+        area[i] = 0xFF;
+        i += 1;
+    }
 }
 
-// Where a boot is refused the images stay as they are lent, FF throughout.
-pub fn set_up(g: Geometry, l: Lengths, active: &mut [u8; MOST], dfu: &mut [u8; MOST]) -> Setup
-    ensures { λ r. ⌜ (r .g ≡ g) × (r .l ≡ l)
-        × Begun g l (now (active .entry)) (now (dfu .entry)) (now (active .exit)) (now (dfu .exit)) (r .verdict) ⌝ }
+fn fill_all(area: &mut [u8; MOST], size: usize, before: usize)
+    requires { ⌜ 0 < size ⌝ }
+    ensures { λ _. ⌜ now (area .exit) ≡ filled size before mostLength ⌝ }
 {
+    fill(area, size, before);
+}
+
+fn wipe_all(area: &mut [u8; MOST])
+    ensures { λ _. ⌜ now (area .exit) ≡ blank mostLength ⌝ }
+{
+    wipe(area);
+}
+
+// DFU's pages go on counting where active's end. Where a boot is refused the images are FF throughout.
+pub fn set_up(
+    g: Geometry,
+    l: Lengths,
+    active: &mut [u8; MOST],
+    dfu: &mut [u8; MOST],
+    state: &mut [u8; MOST],
+) -> Setup
+    ensures { λ r. ⌜ (r .g ≡ g) × (r .l ≡ l)
+        × Begun g l (now (active .exit)) (now (dfu .exit)) (now (state .exit)) (r .verdict) ⌝ }
+{
+    wipe_all(state);
     let verdict = verdicts::boot_verdict(g, l.active, l.dfu, l.state);
     let Verdict::Admitted = verdict else {
+        wipe_all(active);
+        wipe_all(dfu);
         return Setup { g, l, verdict };
     };
-    start(g.page_size(), l.active, active, dfu);
+    let size = g.page_size();
+    fill_all(active, size, 0);
+    fill_all(dfu, size, l.active / size);
     Setup { g, l, verdict }
 }
 
+// A command on the areas' first bytes, as many of each as the second line said. Where a boot is refused no call is made.
 pub fn obey(
-    g: Geometry,
-    l: Lengths,
+    s: Setup,
     command: Command,
     active: &mut [u8; MOST],
     dfu: &mut [u8; MOST],
     state: &mut [u8; MOST],
-) -> Answer {
+) -> Answer
+    ensures { λ r. ⌜ (Fit (s .l) → Obeyed
+        (benchCall (s .g) (verdict (s .verdict)) command (used (s .l) (now (active .entry)) (now (dfu .entry)) (now (state .entry))))
+        (numberOf command) (s .l) (now (active .entry)) (now (dfu .entry)) (now (state .entry))
+        (now (active .exit)) (now (dfu .exit)) (now (state .exit)) r) ⌝ }
+{
+    let g = s.g;
+    let l = s.l;
+    let verdict = s.verdict;
+    if let Verdict::Refused(why) = verdict {
+        return Answer::Refused(why);
+    }
     on_parts(g, l, command, active, dfu, state)
 }
 
@@ -82,11 +123,22 @@ fn on_parts(
     active: &mut [u8],
     dfu: &mut [u8],
     state: &mut [u8],
-) -> Answer {
+) -> Answer
+    ensures { λ r. ⌜ (l .active ≤ length (now (active .entry)) → l .dfu ≤ length (now (dfu .entry)) → l .state ≤ length (now (state .entry))
+        → Obeyed (callOf g command (used l (now (active .entry)) (now (dfu .entry)) (now (state .entry)))) (numberOf command)
+        l (now (active .entry)) (now (dfu .entry)) (now (state .entry))
+        (now (active .exit)) (now (dfu .exit)) (now (state .exit)) r) ⌝ }
+{
     let la = l.active;
     let ld = l.dfu;
     let ls = l.state;
-    if la > active.len() || ld > dfu.len() || ls > state.len() {
+    if la > active.len() {
+        return Answer::Refused(Refusal::Limit);
+    }
+    if ld > dfu.len() {
+        return Answer::Refused(Refusal::Limit);
+    }
+    if ls > state.len() {
         return Answer::Refused(Refusal::Limit);
     }
     call(
@@ -105,7 +157,8 @@ fn call(
     dfu: &mut [u8],
     state: &mut [u8],
 ) -> Answer
-    ensures { λ r. ⌜ Obeyed g command (flash (now (active .entry)) (now (dfu .entry)) (now (state .entry)))
+    ensures { λ r. ⌜ Did (callOf g command (flash (now (active .entry)) (now (dfu .entry)) (now (state .entry)))) (numberOf command)
+        (flash (now (active .entry)) (now (dfu .entry)) (now (state .entry)))
         (flash (now (active .exit)) (now (dfu .exit)) (now (state .exit))) r ⌝ }
 {
     let marks = BlockingFirmwareState::new(g.state);

@@ -20,7 +20,7 @@ put-bytes-requires-2 : tie.Need-put-bytes-requires-2
 put-bytes-requires-2 c κs = search needs
 
 returns : tie.Need-returns
-returns c = (c .put-bytes2 .ensures .1, line-bad _ _ _ _ _ _ _ _ (c .before .before .before .before .before .put-bytes .ensures .0) (c .before .before .before .put-number .ensures) (c .put-bytes2 .ensures .0))
+returns c = (c .put-bytes2 .ensures .1, line-bad _ _ _ _ _ _ _ _ (c .before .before .before .before .before .put-bytes .ensures .0) (c .before .before .before .put-number .ensures .0) (c .put-bytes2 .ensures .0))
 
 pub bad-line-text-spec : {M : Type 1} → statement M
 bad-line-text-spec =

@@ -51,8 +51,8 @@ returns c =
     let t = told .tell .ensures in (
       c .put-bytes3 .ensures .1,
       line-answered (told .before .args .command) _ _ _ _ _ _ _ _ _ _ _ _ _ _ (name .put-name .ensures .0)
-          (space .put-bytes .ensures .0) (rw (t .0) at (first .put-number .ensures))
-          (rw (t .1) at (state .put-bytes2 .ensures .0)) (rw (t .2) at (second .put-number2 .ensures))
+          (space .put-bytes .ensures .0) (rw (t .0) at (first .put-number .ensures .0))
+          (rw (t .1) at (state .put-bytes2 .ensures .0)) (rw (t .2) at (second .put-number2 .ensures .0))
           (c .put-bytes3 .ensures .0),
     )
 

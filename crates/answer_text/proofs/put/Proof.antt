@@ -53,7 +53,7 @@ returns c =
     let start = c .before .before in
     let a = start .args in
     let l = c .before .loop in
-    put-end (a .out .now) (l .out) (a .bytes .now) (a .n) (l .i) (l .inv .2) (l .inv .0) (c .loop-test .left) (start .pre)
+    put-end (a .out .now) (l .out) (a .bytes .now) (a .n) (l .i) (l .inv .2) (l .inv .0) (c .loop-test .left)
 
 pub put-spec : {M : Type 1} → statement M
 put-spec =

@@ -2,6 +2,7 @@
 use mathlib.Core.Path.{refl}
 use borrow.Author.Needs.{needs}
 use Rattle.rules.specs.Calls.{reported}
+use Rattle.answer_text.specs.Answers.{stateText}
 use Rattle.answer_text.proofs.tell.Statement.{statement}
 use Rattle.answer_text.proofs.tell.Tie as tie
 
@@ -24,19 +25,19 @@ enum-known-answer-4 : tie.Need-enum-known-answer-4
 enum-known-answer-4 c = search needs
 
 returns : tie.Need-returns
-unfolding reported
+unfolding reported stateText
 returns c = rw (c .before .before .answer .given .1) (refl, c .state-digit .ensures, refl)
 
 returns-2 : tie.Need-returns-2
-unfolding reported
+unfolding reported stateText
 returns-2 c = rw (c .before .answer2 .given .1) (refl, refl, refl)
 
 returns-3 : tie.Need-returns-3
-unfolding reported
+unfolding reported stateText
 returns-3 c = rw (c .before .before .answer3 .given .1) (c .number .ensures, refl, refl)
 
 returns-4 : tie.Need-returns-4
-unfolding reported
+unfolding reported stateText
 returns-4 c = rw (c .before .answer4 .given .1) (refl, refl, refl)
 
 pub tell-spec : {M : Type 1} → statement M

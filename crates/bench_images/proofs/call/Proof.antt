@@ -1,6 +1,6 @@
 -- `call`: the promise of the call that the command is, with the geometry's sizes. Assumes nothing.
 use borrow.Author.Needs.{needs}
-use Rattle.bench_images.proofs.Laws.{obeyed-update, obeyed-booted, obeyed-boot}
+use Rattle.bench_images.proofs.Laws.{did-update, did-booted, did-boot}
 use Rattle.bench_images.proofs.call.Statement.{statement}
 use Rattle.bench_images.proofs.call.Tie as tie
 
@@ -35,7 +35,7 @@ returns : tie.Need-returns
 returns c =
     let a = c .before .before .before .before .before .before .before .before .before .before .before .args in
     let n = c .before .before .before .before .before .before .before .new in
-    obeyed-update (a .g) (n .result .sizes) (n .ensures) (a .command) _ (a .active .now) (a .dfu .now)
+    did-update (a .g) (n .result .sizes) (n .ensures) (a .command) _ (a .active .now) (a .dfu .now)
     (a .state .now) _ _ (c .before .before .before .before .before .command .given .1) (c .before .before .mark-updated .ensures)
 
 same-length-2 : tie.Need-same-length-2
@@ -45,7 +45,7 @@ returns-2 : tie.Need-returns-2
 returns-2 c =
     let a = c .before .before .before .before .before .before .before .before .before .before .before .args in
     let n = c .before .before .before .before .before .before .before .new in
-    obeyed-booted (a .g) (n .result .sizes) (n .ensures) (a .command) _ (a .active .now) (a .dfu .now)
+    did-booted (a .g) (n .result .sizes) (n .ensures) (a .command) _ (a .active .now) (a .dfu .now)
     (a .state .now) _ _ (c .before .before .before .before .before .command2 .given .1) (c .before .before .mark-booted .ensures)
 
 same-length-3 : tie.Need-same-length-3
@@ -62,7 +62,7 @@ returns-3 c =
     let a = c .before .before .before .before .before .before .before .before .before .before .before .before .before .before .before .before .before .before .args in
     let n = c .before .before .before .before .before .before .before .before .before .before .new2 .ensures in
     let e = c .before .before .before .before .before .before .before .before .before .before .before .before .command3 .given .1 in
-    obeyed-boot (a .g) _ (a .command) _ (a .active .now) (a .dfu .now) (a .state .now) _ _ _ _ n e (c .before .before .before .before .before .before .prepare-boot .ensures)
+    did-boot (a .g) _ (a .command) _ _ _ _ n e (c .before .before .before .before .before .before .prepare-boot .ensures)
 
 pub call-spec : {M : Type 1} → statement M
 call-spec =

@@ -1,10 +1,10 @@
 -- `fill`: the bytes passed are filled. Assumes nothing.
-use mathlib.Core.Path.{_≡_}
+use mathlib.Core.Path.{_≡_, refl, _∙_}
 use Prim.Native.Nat.{ℕ, _+_, _-_, _/_, _%_, _<_, _≤_}
 use native.Mathlib.Omega.{arith}
 use lib.ListN.{length, getD, length-set}
 use borrow.Author.Needs.{needs}
-use Rattle.bench_images.proofs.Laws.{filled-more}
+use Rattle.bench_images.proofs.Laws.{set-more, all-filled}
 use Rattle.bench_images.proofs.fill.Statement.{statement}
 use Rattle.bench_images.proofs.fill.Tie as tie
 
@@ -39,14 +39,17 @@ loop-again c =
     let a = c .before .before .before .before .args in (
       simp length-set (omega (arith, t)),
       simp length-set (l .inv .1),
-      filled-more (a .size) (a .before) (l .i) (c .page-byte .result) (l .area) t (c .page-byte .ensures) (l .inv .2),
+      set-more (λ j. (a .before + j / a .size + 1) % 256) (l .i) (c .page-byte .result) (l .area) t (c .page-byte .ensures) (l .inv .2),
     )
 
 same-length : tie.Need-same-length Inv-loop μ-loop
 same-length c = search needs
 
 returns : tie.Need-returns Inv-loop μ-loop
-returns c = λ i h. c .before .loop .inv .2 i (omega (arith, c .loop-test .left))
+returns c =
+    let l = c .before .loop in
+    let a = c .before .before .before .args in
+    all-filled (a .size) (a .before) (l .area) (λ j h. l .inv .2 j (omega (arith, c .loop-test .left))) ∙ rw (l .inv .1) refl
 
 pub fill-spec : {M : Type 1} → statement M
 fill-spec =

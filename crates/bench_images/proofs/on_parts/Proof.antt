@@ -1,12 +1,20 @@
 -- `on_parts` is safe: each part that is lent lies within its area, as the tests found. Assumes nothing.
-use mathlib.Core.Path.{sym}
+use mathlib.Core.Path.{sym, _∙_}
+use native.Mathlib.Omega.{arith}
 use lib.Seq.{length-take-le}
 use borrow.Author.Needs.{needs}
+use Rattle.bench_images.proofs.Laws.{parts-obeyed}
 use Rattle.bench_images.proofs.on_parts.Statement.{statement}
 use Rattle.bench_images.proofs.on_parts.Tie as tie
 
 returns : tie.Need-returns
-returns c = search needs
+returns c = λ x y z. absurd (omega (arith, c .if1 .taken))
+
+returns-2 : tie.Need-returns-2
+returns-2 c = λ x y z. absurd (omega (arith, c .if2 .taken))
+
+returns-3 : tie.Need-returns-3
+returns-3 c = λ x y z. absurd (omega (arith, c .if3 .taken))
 
 slice-relend-prefix-call : tie.Need-slice-relend-prefix-call
 slice-relend-prefix-call c = search needs
@@ -38,14 +46,19 @@ same-length-2 c = search needs
 same-length-3 : tie.Need-same-length-3
 same-length-3 c = search needs
 
-returns-2 : tie.Need-returns-2
-returns-2 c = search needs
+returns-4 : tie.Need-returns-4
+returns-4 c =
+    let call = c .before .before .before .before .before .before .call in
+    λ x y z. parts-obeyed _ _ _ _ _ _ _ _ _ _ (call .kept .1 .1 .0 ∙ length-take-le _ _ x) (call .kept .1 .1 .1 .0 ∙ length-take-le _ _ y)
+    (call .kept .1 .1 .1 .1 .0 ∙ length-take-le _ _ z) (call .ensures)
 
 pub on-parts-spec : {M : Type 1} → statement M
 on-parts-spec =
     tie.close
     (tie.spec
     returns
+    returns-2
+    returns-3
     slice-relend-prefix-call
     slice-aggregate-call
     slice-relend-prefix-call-2
@@ -56,4 +69,4 @@ on-parts-spec =
     same-length
     same-length-2
     same-length-3
-    returns-2)
+    returns-4)

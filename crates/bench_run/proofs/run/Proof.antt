@@ -9,17 +9,20 @@ Inv-loop fd held₀ active₀ dfu₀ state₀ b₀ turns₀ held active dfu stat
 abbrev μ-loop : tie.MeasureT-loop
 μ-loop fd held₀ active₀ dfu₀ state₀ b₀ turns₀ held active dfu state b turns = turns
 
+start-requires : tie.Need-start-requires Inv-loop μ-loop
+start-requires c κs = tt
+
 loop-holds : tie.Need-loop-holds Inv-loop μ-loop
-loop-holds c = search needs
+loop-holds c = tt
 
 is-over-requires : tie.Need-is-over-requires Inv-loop μ-loop
-is-over-requires c κs = search needs
+is-over-requires c κs = tt
 
 returns : tie.Need-returns Inv-loop μ-loop
-returns c = search needs
+returns c = tt
 
 turn-requires : tie.Need-turn-requires Inv-loop μ-loop
-turn-requires c κs = search needs
+turn-requires c κs = tt
 
 sub-turns : tie.Need-sub-turns Inv-loop μ-loop
 sub-turns c = search needs
@@ -28,10 +31,10 @@ loop-less : tie.Need-loop-less Inv-loop μ-loop
 loop-less c = search needs
 
 loop-again : tie.Need-loop-again Inv-loop μ-loop
-loop-again c = search needs
+loop-again c = tt
 
 returns-2 : tie.Need-returns-2 Inv-loop μ-loop
-returns-2 c = search needs
+returns-2 c = tt
 
 pub run-spec : {M : Type 1} → statement M
 run-spec =
@@ -39,6 +42,7 @@ run-spec =
     (tie.spec
     Inv-loop
     μ-loop
+    start-requires
     loop-holds
     is-over-requires
     returns
