@@ -7,8 +7,8 @@ use lib.Dec.{ltb}
 use lib.ListN.{length, take, drop}
 use Rattle.io.specs.Digits.{glyph}
 use Rattle.state.specs.declared.State.{State}
-use Rattle.state.specs.declared.State.the-variants.{Boot, Swap, Revert, DfuDetach}
 use Rattle.state.specs.Choice.{pick}
+use Rattle.state.specs.Magic.{stateNumber}
 use Rattle.rules.specs.Calls.{Report}
 use Rattle.lines.specs.declared.Command.{Command}
 use Rattle.numerals.specs.Text.{space}
@@ -23,13 +23,6 @@ decimalIn (suc k) n = pick (ltb n 10) (glyph n ∷ []) (decimalIn k (n / 10) ++ 
 -- n in decimal: it never has more than n + 1 digits
 unfoldable pub decimal : ℕ → List ℕ
 decimal n = decimalIn (suc n) n
-
--- the number of a state
-unfoldable pub stateNumber : State → ℕ
-stateNumber Boot = 0
-stateNumber Swap = 1
-stateNumber Revert = 2
-stateNumber DfuDetach = 3
 
 -- a state by its number, and `-` where there is none
 unfoldable pub stateText : Option State → ℕ

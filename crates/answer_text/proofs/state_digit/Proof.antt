@@ -1,6 +1,7 @@
 -- `state_digit`: the digit of each state's number. Assumes nothing.
 use borrow.Author.Needs.{needs}
-use Rattle.answer_text.specs.Answers.{stateNumber, stateText}
+use Rattle.state.specs.Magic.{stateNumber}
+use Rattle.answer_text.specs.Answers.{stateText}
 use Rattle.answer_text.proofs.state_digit.Statement.{statement}
 use Rattle.answer_text.proofs.state_digit.Tie as tie
 
