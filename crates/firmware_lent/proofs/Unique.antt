@@ -50,8 +50,8 @@ get-state-in-unique κs a x y v w p q =
 
 abbrev pub read-dfu-in-says : (κs : Lfts 4) (a : Args read-dfu-in.signature κs) → Answer → Lasts read-dfu-in.ended κs a → Type 0
 read-dfu-in-says κs a r v =
-    ((reported r ≡ report (readDfu (a .0 .now .sizes) (a .1 .1 .1 .0) (length (a .1 .1 .1 .1 .0 .now)) (flash [] (a .1 .0 .now) (a .1 .1 .0 .now))) 0)
-    × (v .1 .1 .1 .1 .0 ≡ readOut (a .0 .now .sizes) (a .1 .1 .1 .0) (a .1 .1 .1 .1 .0 .now) (flash [] (a .1 .0 .now) (a .1 .1 .0 .now))))
+    ((reported r ≡ report (readDfu (a .0 .now .sizes) (a .1 .1 .1 .0 .0) (length (a .1 .1 .1 .1 .0 .now)) (flash [] (a .1 .0 .now) (a .1 .1 .0 .now))) 0)
+    × (v .1 .1 .1 .1 .0 ≡ readOut (a .0 .now .sizes) (a .1 .1 .1 .0 .0) (a .1 .1 .1 .1 .0 .now) (flash [] (a .1 .0 .now) (a .1 .1 .0 .now))))
     × (v .0 ≡ a .0 .now)
 
 pub read-dfu-in-reads : {M : Type 1} (𝓤 : URA M) (H : Heap 𝓤) (A : Atoms 𝓤) (mem : Memory → SProp 𝓤) (run : Routine → Fun 𝓤) (κs : Lfts 4) (a : Args read-dfu-in.signature κs)
@@ -123,7 +123,7 @@ mark-booted-in-unique κs a x y v w p q =
 
 abbrev pub write-firmware-in-says : (κs : Lfts 4) (a : Args write-firmware-in.signature κs) → Answer → Lasts write-firmware-in.ended κs a → Type 0
 write-firmware-in-says κs a r v =
-    WroteFirmware (a .0 .now) (a .1 .1 .1 .1 .1 .0) (a .1 .1 .1 .0) (a .1 .1 .1 .1 .0 .now) (a .1 .0 .now) (a .1 .1 .0 .now) (v .1 .0) (v .0) r
+    WroteFirmware (a .0 .now) (a .1 .1 .1 .1 .1 .0) (a .1 .1 .1 .0 .0) (a .1 .1 .1 .1 .0 .now) (a .1 .0 .now) (a .1 .1 .0 .now) (v .1 .0) (v .0) r
 
 pub write-firmware-in-reads : {M : Type 1} (𝓤 : URA M) (H : Heap 𝓤) (A : Atoms 𝓤) (mem : Memory → SProp 𝓤) (run : Routine → Fun 𝓤) (κs : Lfts 4) (a : Args write-firmware-in.signature κs)
     (r : Answer) (v : Lasts write-firmware-in.ended κs a) → write-firmware-in.clauses 𝓤 H A mem run κs a .ensures tt r (atExit write-firmware-in.ended κs a v) ≡ fact 𝓤 (write-firmware-in-says κs a r v)
