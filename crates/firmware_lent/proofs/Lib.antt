@@ -2,4 +2,3 @@ pub mod Thin
 pub mod Returned
 pub mod Frame
 pub mod Marks
-pub mod Unique

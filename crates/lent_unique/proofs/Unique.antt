@@ -1,4 +1,4 @@
--- Any two results that a contract of this crate allows for one input are equal: the answer, and all that is left behind the `&mut`s, the
+-- Any two results that a contract of firmware_lent allows for one input are equal: the answer, and all that is left behind the `&mut`s, the
 -- record too. These proofs are walks by hand, for which no `Reads` is generated; so each contract is read here, and `..-reads` says that
 -- the generated clause is that fact. Assumes nothing.
 use mathlib.Core.Path.{_≡_, refl, sym, ap, ap₂, _∙_}
