@@ -54,10 +54,11 @@ pub enum Wrong {
     PageIsTheProduct,
     PageLimitLess,
     PageLimitMore,
+    CopiesBeforeMarks,
 }
 
 impl Wrong {
-    pub const ALL: [(&'static str, Wrong); 43] = [
+    pub const ALL: [(&'static str, Wrong); 44] = [
         ("low-pages-first", Wrong::LowPagesFirst),
         ("revert-high-pages-first", Wrong::RevertHighPagesFirst),
         ("count-one-more", Wrong::CountOneMore),
@@ -101,6 +102,7 @@ impl Wrong {
         ("page-is-the-product", Wrong::PageIsTheProduct),
         ("page-limit-less", Wrong::PageLimitLess),
         ("page-limit-more", Wrong::PageLimitMore),
+        ("copies-before-marks", Wrong::CopiesBeforeMarks),
     ];
 
     pub fn named(name: &str) -> Option<Wrong> {
@@ -529,6 +531,7 @@ impl Run {
     /// Runs a list of copies, reading progress afresh before each.
     fn copies(&mut self, list: Vec<Copy>, page: usize, chunk: usize) {
         let at_entry = self.progress();
+        let mut unmarked = Vec::new();
         for copy in list {
             let progress = match self.wrong {
                 Wrong::ProgressReadOnce => at_entry,
@@ -545,7 +548,14 @@ impl Run {
                 let bytes = self.area(from)[at..at + chunk].to_vec();
                 self.write(copy.to, copy.target * page + piece * chunk, bytes);
             }
-            self.write_word(2 + copy.step, MARK);
+            match self.wrong {
+                Wrong::CopiesBeforeMarks => unmarked.push(copy.step),
+                _ => self.write_word(2 + copy.step, MARK),
+            }
+        }
+        // the end's bytes and the count are right: only what a cut leaves tells
+        for step in unmarked {
+            self.write_word(2 + step, MARK);
         }
     }
 
