@@ -5,6 +5,7 @@ use bench_areas::Tail;
 use bench_images::MOST;
 use bench_lines::Bench;
 use bench_lines::Phase;
+use libc::STDERR_FILENO;
 use libc::STDOUT_FILENO;
 
 // Writes, and answers whether all was written. What cannot be written is said on standard error.
@@ -25,6 +26,49 @@ fn stopped(b: Bench) -> Bench {
         lines: b.lines,
         held: 0,
     }
+}
+
+// Why a line is bad, on standard error: by what was expected. Standard output says which line it is.
+fn explain(expected: Bench) {
+    let phase = expected.phase;
+    match phase {
+        Phase::Sizes => {
+            io::write_all(
+                STDERR_FILENO,
+                b"bad line: the first line is seven numbers, Ea Wa Ed Wd Es Ws b, with single spaces, in at most 80 bytes\n",
+            );
+        }
+        Phase::Lengths(_) => {
+            io::write_all(
+                STDERR_FILENO,
+                b"bad line: the second line is three lengths, La Ld Ls, each at most 16384, with single spaces, in at most 80 bytes\n",
+            );
+        }
+        Phase::Commands(_) => {
+            io::write_all(
+                STDERR_FILENO,
+                b"bad line: a command is update, booted or boot, a space and a number up to 4294967295, in at most 80 bytes\n",
+            );
+        }
+        Phase::Over => {}
+    }
+}
+
+// What a line leaves. Where nothing follows it, it was bad.
+fn left_by(before: Bench, after: Bench) -> Bench {
+    if bench_lines::is_over(after) {
+        explain(before);
+    }
+    after
+}
+
+// The first two lines must have come before the input's end.
+fn missing(b: Bench) {
+    let phase = b.phase;
+    if let Phase::Commands(_) = phase {
+        return;
+    }
+    explain(b);
 }
 
 // A piece of the input.
@@ -48,7 +92,7 @@ fn feed(
         if !say(&out[..n]) {
             return stopped(b);
         }
-        b = t.bench;
+        b = left_by(b, t.bench);
         at = t.at;
     }
     b
@@ -82,7 +126,8 @@ fn finish(
     if !say(&out[..n]) {
         return;
     }
-    let bench = t.bench;
+    let bench = left_by(b, t.bench);
+    missing(bench);
     let r = bench_areas::close(bench, &mut out);
     let k = r.n;
     if !say(&out[..k]) {

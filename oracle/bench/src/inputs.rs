@@ -143,9 +143,12 @@ fn numbers() -> Vec<String> {
     all
 }
 
-/// Shapes whose every budget is tried: the sheet, one with erase units below the page, long words, no page.
+/// Shapes whose every budget is tried: the sheet, that with no word more than its marks want, one with erase units below the page,
+/// long words, no page.
 fn budgets(random: &mut Random) -> Vec<Vec<u8>> {
-    let mut shapes = vec![SHEET];
+    let mut few = SHEET;
+    (few.geometry.es, few.lengths[2]) = (15, 15);
+    let mut shapes = vec![SHEET, few];
     let mut small = SHEET;
     (small.geometry.ea, small.geometry.ed) = (8, 2);
     small.lengths = [16, 24, 32];

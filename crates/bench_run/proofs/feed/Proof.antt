@@ -39,6 +39,9 @@ stopped-requires c κs = tt
 returns-2 : tie.Need-returns-2 Inv-loop μ-loop
 returns-2 c = tt
 
+left-by-requires : tie.Need-left-by-requires Inv-loop μ-loop
+left-by-requires c κs = tt
+
 loop-less : tie.Need-loop-less Inv-loop μ-loop
 loop-less c =
     let t = c .before .before .before .before .before .before .before .before .before .before .before .before .loop-test .taken in
@@ -66,6 +69,7 @@ feed-spec =
     say-requires
     stopped-requires
     returns-2
+    left-by-requires
     loop-less
     loop-again
     returns-3)
