@@ -272,7 +272,7 @@ pub fn large(judge: &mut Judge, _: &mut Random) {
         let page = (ea * ed) as usize;
         let unlike =
             Input { numbers: [ea, 1, ed, 1, 7, 1, 1], la: page, ld: 2 * page, ls: 7, magic: 0xF0, ..PLAIN };
-        for budget in [0, 2000, 1_100_000] {
+        for budget in [0, 1, 2, 1022, 1023, 1024, 2000, 1_100_000] {
             table.ask(judge, Kind::PrepareBoot, &unlike, budget);
         }
     }
