@@ -10,10 +10,12 @@ use lib.ListN.{length, getD, set, take, drop, length-replicate, getD-replicate}
 use lib.Seq.{getD-set-same, getD-set-other, ext-getD, take-at, drop-at}
 use borrow.Author.Count.{below-more}
 use borrow.Author.Tests.{eqb-true, eqb-false, ne-eqb}
+use Rattle.state.specs.declared.Cell.the-variants.{High}
 use Rattle.state.specs.declared.State.{State}
 use Rattle.state.specs.declared.State.the-variants as state
 use Rattle.state.specs.Choice.{pick}
-use Rattle.state.specs.Magic.{erased, magic, throughout}
+use Rattle.state.specs.Cells.{erased}
+use Rattle.state.specs.Magic.{magic}
 use Rattle.geometry.specs.declared.Geometry.{Geometry}
 use Rattle.geometry.specs.declared.StateSizes.{StateSizes}
 use Rattle.geometry.specs.declared.Verdict.{Verdict}
@@ -24,15 +26,14 @@ use Rattle.geometry.specs.Refusals.{number, verdict, bootRefusal}
 use Rattle.geometry.proofs.Tests.{number-some}
 use Rattle.geometry.proofs.PageSize.{page-some}
 use Rattle.geometry.proofs.Rows.{admitted}
-use Rattle.mem_flash.specs.Flash.{Flash, Op, erase, write, change, apply, applyAll, after, unitOps, eraseOps}
-use Rattle.mem_flash.specs.Flash as areas
+use Rattle.mem_flash.specs.Flash.{Flash}
 use Rattle.mem_flash.specs.Run.{flash}
 use Rattle.rules.specs.declared.Answer.{Answer}
-use Rattle.rules.specs.StateArea.{word, valid, invalidateOp, magicOp}
 use Rattle.rules.specs.declared.Answer.the-variants as answers
 use Rattle.rules.specs.Calls.{Call, Did, report, reported, left}
-use Rattle.rules.specs.Boot.{renewOps, prepareBoot}
-use Rattle.rules.specs.FirmwareState.{setMagicOps, mark}
+use Rattle.rules.specs.Boot.{prepareBoot}
+use Rattle.rules.specs.FirmwareState.{mark}
+use Rattle.rules.proofs.Marks.{on-mark, did-beside}
 use Rattle.lines.specs.declared.Lengths.{Lengths}
 use Rattle.lines.specs.declared.Command.{Command}
 use Rattle.lines.specs.declared.Command.the-variants.{Update, Booted, Boot}
@@ -75,10 +76,10 @@ all-filled size before area h =
     zero-place : (size before j : ℕ) → (before + (0 + j) / size + 1) % 256 ≡ (before + j / size + 1) % 256
     zero-place size before j = let e : 0 + j ≡ j = omega arith in rw e refl
 
-pub all-blank : (area : List ℕ) → ((j : ℕ) → j < length area → getD area j 0 ≡ erased) → area ≡ blank (length area)
+pub all-blank : (area : List ℕ) → ((j : ℕ) → j < length area → getD area j 0 ≡ erased High) → area ≡ blank (length area)
 all-blank area h =
-    ext-getD 0 area (blank (length area)) (sym (length-replicate (length area) erased))
-    (λ j l. h j l ∙ sym (getD-replicate (length area) j erased 0 l))
+    ext-getD 0 area (blank (length area)) (sym (length-replicate (length area) (erased High)))
+    (λ j l. h j l ∙ sym (getD-replicate (length area) j (erased High) 0 l))
 
 -- the first of them
 take-from : (size before i n m : ℕ) → n ≤ m → take n (filledFrom size before i m) ≡ filledFrom size before i n
@@ -94,7 +95,7 @@ take-filled size before n m h = take-from size before 0 n m h
 take-blank : (n m : ℕ) → n ≤ m → take n (blank m) ≡ blank n
 take-blank zero m h = refl
 take-blank (suc n) zero h = absurd (omega arith)
-take-blank (suc n) (suc m) h = ap (λ (x : List ℕ). erased ∷ x) (take-blank n m (omega arith))
+take-blank (suc n) (suc m) h = ap (λ (x : List ℕ). erased High ∷ x) (take-blank n m (omega arith))
 
 -- ---- the first two lines
 
@@ -160,54 +161,10 @@ start-used g l a d s v b f = start-by _ g l a d s v refl b f
 
 -- ---- a mark changes the state area alone
 
-data InState : List Op → Type 0 where
-  no-ops : InState []
-  erases : {from n : ℕ} {os : List Op} → InState os → InState (erase areas.state from n ∷ os)
-  writes : {at : ℕ} {bs : List ℕ} {os : List Op} → InState os → InState (write areas.state at bs ∷ os)
-
-in-both : {os ps : List Op} → InState os → InState ps → InState (os ++ ps)
-in-both no-ops q = q
-in-both (erases p) q = erases (in-both p q)
-in-both (writes p) q = writes (in-both p q)
-
-in-pick : (t : Bool) {os ps : List Op} → InState os → InState ps → InState (pick t os ps)
-unfolding pick
-in-pick true p q = p
-in-pick false p q = q
-
-in-units : (n unit from : ℕ) → InState (unitOps n unit areas.state from)
-unfolding unitOps
-in-units zero unit from = no-ops
-in-units (suc n) unit from = erases (in-units n unit (from + unit))
-
-in-mark : (z : StateSizes) (m : ℕ) (st : List ℕ) → InState (setMagicOps z m st)
-unfolding setMagicOps renewOps eraseOps invalidateOp magicOp
-in-mark z m st =
-    in-pick (throughout m (word z 0 st)) no-ops
-    (in-both (in-pick (valid z st) (writes no-ops) no-ops) (in-both (in-units (length st / z .es) (z .es) 0) (writes no-ops)))
-
-after-state : (k : ℕ) (os : List Op) (a d st : List ℕ) → InState os
-    → applyAll (take k os) (flash a d st) ≡ flash a d (applyAll (take k os) (flash [] [] st) .state)
-unfolding applyAll apply change
-after-state zero os a d st p = refl
-after-state (suc k) [] a d st p = refl
-after-state (suc k) (o ∷ os) a d st (erases p) = after-state k os a d _ p
-after-state (suc k) (o ∷ os) a d st (writes p) = after-state k os a d _ p
-
-left-by : (t : Bool) (k : ℕ) (os : List Op) (a d st : List ℕ) → InState os
-    → pick t (after k os (flash a d st)) (flash a d st) ≡ flash a d (pick t (after k os (flash [] [] st)) (flash [] [] st) .state)
-unfolding pick after
-left-by true k os a d st p = after-state k os a d st p
-left-by false k os a d st p = refl
-
 did-mark : (s : State) (z : StateSizes) (k : ℕ) (a d st st′ : List ℕ) (r : Answer) → Did (mark s z st) k (flash [] [] st) (flash [] [] st′) r
     → Did (mark s z st) k (flash a d st) (flash a d st′) r
-unfolding mark left
-did-mark s z k a d st st′ r h =
-    record {
-      answer = h .answer;
-      flash = ap (λ (f : Flash). flash a d (f .state)) (h .flash) ∙ sym (left-by _ k _ a d st (in-mark z (magic s) st));
-    }
+unfolding mark
+did-mark s z k a d st st′ r h = did-beside (mark s z st) k a d (on-mark z (magic s) st) h
 
 -- ---- the calls, with the geometry's sizes
 

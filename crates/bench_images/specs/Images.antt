@@ -5,9 +5,10 @@ use mathlib.Core.Option.{none}
 use Prim.Native.Nat.{ℕ, zero, suc, _+_, _/_, _%_, _≤_, _<_}
 use lib.Dec.{eqb}
 use lib.ListN.{take, drop, replicate}
+use Rattle.state.specs.declared.Cell.the-variants.{High}
 use Rattle.state.specs.declared.State.the-variants as state
 use Rattle.state.specs.Choice.{pick}
-use Rattle.state.specs.Magic.{erased}
+use Rattle.state.specs.Cells.{erased}
 use Rattle.geometry.specs.declared.Geometry.{Geometry}
 use Rattle.geometry.specs.declared.Verdict.{Verdict}
 use Rattle.geometry.specs.Geometry.{page, pages}
@@ -36,7 +37,7 @@ filled size before n = filledFrom size before 0 n
 
 -- n bytes of FF
 abbrev pub blank : ℕ → List ℕ
-blank n = replicate n erased
+blank n = replicate n (erased High)
 
 -- active's pages count from 1, and DFU's go on where active's end; where a boot is refused the images are FF, as the state area always is
 unfoldable pub startOf : Geometry → Lengths → Flash

@@ -16,6 +16,7 @@ use geometry::Verdict;
 use lines::Command;
 use lines::Lengths;
 use rules::Answer;
+use state::State;
 
 // The most bytes of an area. All of them are lent; the second line says how many are used.
 pub const MOST: usize = 16384;
@@ -51,7 +52,7 @@ fn wipe(area: &mut [u8])
 {
     let mut i = 0;
     while i < area.len() {
-        area[i] = 0xFF;
+        area[i] = State::ERASE_VALUE;
         i += 1;
     }
 }

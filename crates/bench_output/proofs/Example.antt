@@ -1,11 +1,12 @@
 -- The definition gives the request's example, and three more outputs, by computation. Assumes nothing.
 use mathlib.Core.Path.{_≡_, refl}
 use Rattle.state.specs.Choice.{pick}
-use Rattle.state.specs.Magic.{erased, marked, magic, stateNumber, throughout, holds, stateOf}
+use Rattle.state.specs.Cells.{erased, marked, programmed}
+use Rattle.state.specs.Magic.{magic, stateNumber, throughout, holds, stateOf}
 use Rattle.gcd.specs.Multiple.{firstDivided, leastCommon}
-use Rattle.geometry.specs.Geometry.{page, pages, words}
-use Rattle.geometry.specs.Refusals.{any, number, firstRow, mostNumber, mostPage, mostLength, badNumber, tooLong, uneven, outside, unevenPage, unevenAreas, badState, bootWords, otherWords, stateNumbers, bootNumbers, bootRefusal, stateRefusal}
-use Rattle.mem_flash.specs.Flash.{programmed, blank, program, erasedAt, writtenAt, change, apply, applyAll, after, unitOps, eraseOps}
+use Rattle.geometry.specs.Geometry.{cell, page, pages, words}
+use Rattle.geometry.specs.Refusals.{any, number, firstRow, mostNumber, mostPage, mostLength, badNumber, badValue, tooLong, uneven, outside, unevenPage, unevenAreas, badState, bootWords, otherWords, stateNumbers, bootNumbers, bootRefusal, stateRefusal}
+use Rattle.mem_flash.specs.Flash.{blank, program, erasedAt, writtenAt, change, apply, applyAll, after, unitOps, eraseOps}
 use Rattle.rules.specs.StateArea.{word, readState, valid, markOpen, mostMarks, firstOpen, marksDone, progress, markOp, invalidateOp, magicOp}
 use Rattle.rules.specs.Steps.{toDfu, toActive, swapFrom, revertFrom, swapSteps, revertSteps, sourceOf, unitOf, chunkOps, fillOps, copyOps, onceOps, copiesOps, pageCount, swapOps, revertOps}
 use Rattle.rules.specs.Calls.{report, left}
@@ -20,8 +21,8 @@ use Rattle.bench_output.specs.Example.{exampleInput, exampleOutput, badI
 
 pub examples : (output exampleInput ≡ exampleOutput) × (output badInput ≡ badOutput) × (output refusedInput ≡ refusedOutput)
     × (output missingInput ≡ missingOutput)
-unfolding pick erased marked magic throughout holds stateOf leastCommon firstDivided page pages words
-    any number firstRow mostNumber mostPage mostLength badNumber tooLong uneven outside unevenPage unevenAreas badState bootWords otherWords stateNumbers bootNumbers bootRefusal stateRefusal
+unfolding pick erased marked magic throughout holds stateOf leastCommon firstDivided cell page pages words
+    any number firstRow mostNumber mostPage mostLength badNumber badValue tooLong uneven outside unevenPage unevenAreas badState bootWords otherWords stateNumbers bootNumbers bootRefusal stateRefusal
     programmed blank program erasedAt writtenAt change apply applyAll after unitOps eraseOps word readState valid markOpen mostMarks firstOpen marksDone progress markOp invalidateOp magicOp
     toDfu toActive swapFrom revertFrom swapSteps revertSteps sourceOf unitOf chunkOps fillOps copyOps onceOps copiesOps pageCount swapOps revertOps
     report left renewOps finishOps swapOrRevertOps confirming bootOpsIn bootOps prepareBoot setMagicOps mark

@@ -4,10 +4,11 @@ use mathlib.Core.Path.{_≡_, _∙_, sym}
 use mathlib.Core.List.{List, [], _∷_}
 use Prim.Native.Nat.{ℕ, _*_}
 use lib.ListN.{replicate}
-use Rattle.state.specs.Magic.{marked}
+use Rattle.state.specs.declared.Cell.{Cell}
+use Rattle.state.specs.Cells.{marked}
 use Rattle.geometry.specs.declared.Geometry.{Geometry}
 use Rattle.geometry.specs.declared.StateSizes.{StateSizes}
-use Rattle.geometry.specs.Geometry.{page}
+use Rattle.geometry.specs.Geometry.{cell, page}
 use Rattle.mem_flash.specs.declared.Budget.{Budget}
 use Rattle.mem_flash.specs.declared.Flow.{Flow}
 use Rattle.mem_flash.specs.declared.Flow.the-variants.{On, Cut}
@@ -24,10 +25,10 @@ use Rattle.boot_plan.specs.Says.{Says, toward}
 use Rattle.boot_steps.specs.Step.{Marked, Stepped}
 
 -- the code writes a mark over its word
-pub marks : (k : ℕ) (z : StateSizes) (w at : ℕ) (st st′ : List ℕ) (r : Flow) → at ≡ w * z .ws
-    → InArea k (writeOps at (replicate (z .ws) 0x00)) st st′ r → Marked k z w st st′ r
-unfolding markOp marked placed change
-marks k z w at st st′ r e v i o a d = rw (← o, ← e) (v state (flash a d st))
+pub marks : (k : ℕ) (z : StateSizes) (w at : ℕ) (st st′ : List ℕ) (r : Flow) {c : Cell} {b : ℕ} → c ≡ cell z → b ≡ marked c → at ≡ w * z .ws
+    → InArea k (writeOps c at (replicate (z .ws) b)) st st′ r → Marked k z w st st′ r
+unfolding markOp placed change
+marks k z w at st st′ r h m e v i o a d = rw (← o, ← e) ((rw (m, h) at v) state (flash a d st))
 
 -- ---- the page, then the mark
 
@@ -40,7 +41,7 @@ marked-beside dfu i k ops xs st st′ r w f = w (f .active) xs
 marked-beside state i k ops xs st st′ r w f = absurd i
 
 module _ (k : ℕ) (g : Geometry) (unit : ℕ) (c : PageCopy) (src xs xs₁ st : List ℕ) (r : Flow)
-    (w : InArea k (fillOps unit (page g) (g .b) (c .to .0 * page g) (c .from .0 * page g) src) xs xs₁ r) where
+    (w : InArea k (fillOps (cell (g .state)) unit (page g) (g .b) (c .to .0 * page g) (c .from .0 * page g) src) xs xs₁ r) where
   pub step-cut : r ≡ Cut → Stepped k g unit c src xs xs₁ st st Cut
   step-cut o a i f m e = then-cut k _ (markOp (g .state) m ∷ []) _ _ r (w a (placed state st f)) o
 

@@ -4,7 +4,7 @@ use mathlib.Core.List.{List, [], _∷_, _++_}
 use Prim.Native.Nat.{ℕ, _+_, _*_, _≤_}
 use Rattle.geometry.specs.declared.Geometry.{Geometry}
 use Rattle.geometry.specs.declared.StateSizes.{StateSizes}
-use Rattle.geometry.specs.Geometry.{page}
+use Rattle.geometry.specs.Geometry.{cell, page}
 use Rattle.mem_flash.specs.declared.Flow.{Flow}
 use Rattle.mem_flash.specs.Flash.{Area, state, Flash}
 use Rattle.mem_flash.specs.Run.{ended, run, placed}
@@ -28,5 +28,5 @@ Marked k z w st st′ r = (i : ℕ) → w ≡ 2 + i → InState k (markOp z i �
 abbrev pub Stepped : ℕ → Geometry → ℕ → PageCopy → List ℕ → List ℕ → List ℕ → List ℕ → List ℕ → Flow → Type 0
 Stepped k g unit c src xs xs′ st st′ r =
     (a : Area) → Image a → (f : Flash) (i : ℕ) → c .mark .0 ≡ 2 + i
-    → run k (fillOps unit (page g) (g .b) (c .to .0 * page g) (c .from .0 * page g) src a ++ (markOp (g .state) i ∷ [])) (placed a xs (placed state st f))
+    → run k (fillOps (cell (g .state)) unit (page g) (g .b) (c .to .0 * page g) (c .from .0 * page g) src a ++ (markOp (g .state) i ∷ [])) (placed a xs (placed state st f))
     ≡ ended (placed a xs′ (placed state st′ f)) r

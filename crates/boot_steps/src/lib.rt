@@ -18,7 +18,6 @@ use geometry::Offset;
 use geometry::Word;
 use mem_flash::Budget;
 use mem_flash::Flow;
-use state::State;
 
 // Where a word of the state area begins.
 fn word_offset(word: Word, ws: usize) -> Offset
@@ -34,7 +33,8 @@ fn update_progress(g: Geometry, state: &mut [u8], mark: Word, left: Budget) -> F
     ensures { λ r. ⌜ Marked (left .0) (g .state) (mark .0) (now (state .entry)) (now (state .exit)) r ⌝ }
 {
     let ws = g.state.ws as usize;
-    mem_flash::write_word(state, word_offset(mark, ws), State::MARK_VALUE, ws, left)
+    let cell = g.state.cell();
+    mem_flash::write_word(state, word_offset(mark, ws), cell.marked(), ws, cell, left)
 }
 
 // A page and its mark, whichever image the page goes to.

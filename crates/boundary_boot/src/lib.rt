@@ -21,9 +21,10 @@ pub fn prepare_boot(
     es: u32,
     ws: u32,
     b: u32,
+    ev: u32,
     budget: u32,
 ) -> u64
-    ensures { λ r. ⌜ Told (prepareBoot (geometry ea wa ed wd es ws b) (flash (now (active .entry)) (now (dfu .entry)) (now (state .entry)))) budget
+    ensures { λ r. ⌜ Told (prepareBoot (geometry ea wa ed wd es ws b ev) (flash (now (active .entry)) (now (dfu .entry)) (now (state .entry)))) budget
         (flash (now (active .entry)) (now (dfu .entry)) (now (state .entry)))
         (flash (now (active .exit)) (now (dfu .exit)) (now (state .exit))) r ⌝ }
 {
@@ -32,17 +33,17 @@ pub fn prepare_boot(
         wa,
         ed,
         wd,
-        state: StateSizes { es, ws },
+        state: StateSizes { es, ws, ev },
         b,
     };
     packed::pack(BootLoader::new(g).prepare_boot(active, dfu, state, budget))
 }
 
 // The boot loader's reading of the state area. The images' sizes play no part in it.
-pub fn read_state(state: &[u8], es: u32, ws: u32) -> u64
-    ensures { λ r. ⌜ r ≡ packed (report (getState (stateSizes es ws) (now (state .entry))) 0) ⌝ }
+pub fn read_state(state: &[u8], es: u32, ws: u32, ev: u32) -> u64
+    ensures { λ r. ⌜ r ≡ packed (report (getState (stateSizes es ws ev) (now (state .entry))) 0) ⌝ }
 {
-    let z = StateSizes { es, ws };
+    let z = StateSizes { es, ws, ev };
     let g = Geometry {
         ea: 0,
         wa: 0,

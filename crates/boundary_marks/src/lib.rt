@@ -12,18 +12,18 @@ use geometry::Sizes;
 use geometry::StateSizes;
 
 // An updater of these sizes. No call here asks for its memory.
-fn updater(ed: u32, wd: u32, es: u32, ws: u32) -> BlockingFirmwareUpdater
-    ensures { λ r. ⌜ r .sizes ≡ sizes ed wd es ws ⌝ }
+fn updater(ed: u32, wd: u32, es: u32, ws: u32, ev: u32) -> BlockingFirmwareUpdater
+    ensures { λ r. ⌜ r .sizes ≡ sizes ed wd es ws ev ⌝ }
 {
-    let z = StateSizes { es, ws };
+    let z = StateSizes { es, ws, ev };
     let sizes = Sizes { ed, wd, state: z };
     BlockingFirmwareUpdater::new(sizes)
 }
 
-pub fn get_state(dfu: &[u8], state: &[u8], ed: u32, wd: u32, es: u32, ws: u32) -> u64
-    ensures { λ r. ⌜ r ≡ packed (report (updaterGetState (sizes ed wd es ws) (flash [] (now (dfu .entry)) (now (state .entry)))) 0) ⌝ }
+pub fn get_state(dfu: &[u8], state: &[u8], ed: u32, wd: u32, es: u32, ws: u32, ev: u32) -> u64
+    ensures { λ r. ⌜ r ≡ packed (report (updaterGetState (sizes ed wd es ws ev) (flash [] (now (dfu .entry)) (now (state .entry)))) 0) ⌝ }
 {
-    packed::pack(updater(ed, wd, es, ws).get_state(dfu, state))
+    packed::pack(updater(ed, wd, es, ws, ev).get_state(dfu, state))
 }
 
 // The next boot swaps the images.
@@ -34,12 +34,13 @@ pub fn mark_updated(
     wd: u32,
     es: u32,
     ws: u32,
+    ev: u32,
     budget: u32,
 ) -> u64
-    ensures { λ r. ⌜ Told (updaterMarkUpdated (sizes ed wd es ws) (flash [] (now (dfu .entry)) (now (state .entry)))) budget
+    ensures { λ r. ⌜ Told (updaterMarkUpdated (sizes ed wd es ws ev) (flash [] (now (dfu .entry)) (now (state .entry)))) budget
         (flash [] (now (dfu .entry)) (now (state .entry))) (flash [] (now (dfu .entry)) (now (state .exit))) r ⌝ }
 {
-    packed::pack(updater(ed, wd, es, ws).mark_updated(dfu, state, budget))
+    packed::pack(updater(ed, wd, es, ws, ev).mark_updated(dfu, state, budget))
 }
 
 // The next boot starts the USB update. Not while a swap is pending.
@@ -50,12 +51,13 @@ pub fn mark_dfu(
     wd: u32,
     es: u32,
     ws: u32,
+    ev: u32,
     budget: u32,
 ) -> u64
-    ensures { λ r. ⌜ Told (updaterMarkDfu (sizes ed wd es ws) (flash [] (now (dfu .entry)) (now (state .entry)))) budget
+    ensures { λ r. ⌜ Told (updaterMarkDfu (sizes ed wd es ws ev) (flash [] (now (dfu .entry)) (now (state .entry)))) budget
         (flash [] (now (dfu .entry)) (now (state .entry))) (flash [] (now (dfu .entry)) (now (state .exit))) r ⌝ }
 {
-    packed::pack(updater(ed, wd, es, ws).mark_dfu(dfu, state, budget))
+    packed::pack(updater(ed, wd, es, ws, ev).mark_dfu(dfu, state, budget))
 }
 
 // The new firmware is confirmed.
@@ -66,10 +68,11 @@ pub fn mark_booted(
     wd: u32,
     es: u32,
     ws: u32,
+    ev: u32,
     budget: u32,
 ) -> u64
-    ensures { λ r. ⌜ Told (updaterMarkBooted (sizes ed wd es ws) (flash [] (now (dfu .entry)) (now (state .entry)))) budget
+    ensures { λ r. ⌜ Told (updaterMarkBooted (sizes ed wd es ws ev) (flash [] (now (dfu .entry)) (now (state .entry)))) budget
         (flash [] (now (dfu .entry)) (now (state .entry))) (flash [] (now (dfu .entry)) (now (state .exit))) r ⌝ }
 {
-    packed::pack(updater(ed, wd, es, ws).mark_booted(dfu, state, budget))
+    packed::pack(updater(ed, wd, es, ws, ev).mark_booted(dfu, state, budget))
 }

@@ -14,31 +14,31 @@ use firmware_state::BlockingFirmwareState;
 use geometry::StateSizes;
 use state::State;
 
-pub fn get_state(state: &[u8], es: u32, ws: u32) -> u64
-    ensures { λ r. ⌜ r ≡ packed (report (getState (stateSizes es ws) (now (state .entry))) 0) ⌝ }
+pub fn get_state(state: &[u8], es: u32, ws: u32, ev: u32) -> u64
+    ensures { λ r. ⌜ r ≡ packed (report (getState (stateSizes es ws ev) (now (state .entry))) 0) ⌝ }
 {
-    packed::pack(BlockingFirmwareState::new(StateSizes { es, ws }).get_state(state))
+    packed::pack(BlockingFirmwareState::new(StateSizes { es, ws, ev }).get_state(state))
 }
 
 // The next boot swaps the images.
-pub fn mark_updated(state: &mut [u8], es: u32, ws: u32, budget: u32) -> u64
-    ensures { λ r. ⌜ Told (mark State.Swap (stateSizes es ws) (now (state .entry))) budget (flash [] [] (now (state .entry))) (flash [] [] (now (state .exit))) r ⌝ }
+pub fn mark_updated(state: &mut [u8], es: u32, ws: u32, ev: u32, budget: u32) -> u64
+    ensures { λ r. ⌜ Told (mark State.Swap (stateSizes es ws ev) (now (state .entry))) budget (flash [] [] (now (state .entry))) (flash [] [] (now (state .exit))) r ⌝ }
 {
-    packed::pack(BlockingFirmwareState::new(StateSizes { es, ws }).mark_updated(state, budget))
+    packed::pack(BlockingFirmwareState::new(StateSizes { es, ws, ev }).mark_updated(state, budget))
 }
 
 // The next boot starts the USB update.
-pub fn mark_dfu(state: &mut [u8], es: u32, ws: u32, budget: u32) -> u64
-    ensures { λ r. ⌜ Told (mark State.DfuDetach (stateSizes es ws) (now (state .entry))) budget (flash [] [] (now (state .entry))) (flash [] [] (now (state .exit))) r ⌝ }
+pub fn mark_dfu(state: &mut [u8], es: u32, ws: u32, ev: u32, budget: u32) -> u64
+    ensures { λ r. ⌜ Told (mark State.DfuDetach (stateSizes es ws ev) (now (state .entry))) budget (flash [] [] (now (state .entry))) (flash [] [] (now (state .exit))) r ⌝ }
 {
-    packed::pack(BlockingFirmwareState::new(StateSizes { es, ws }).mark_dfu(state, budget))
+    packed::pack(BlockingFirmwareState::new(StateSizes { es, ws, ev }).mark_dfu(state, budget))
 }
 
 // The new firmware is confirmed: the next boot does not undo the swap.
-pub fn mark_booted(state: &mut [u8], es: u32, ws: u32, budget: u32) -> u64
-    ensures { λ r. ⌜ Told (mark State.Boot (stateSizes es ws) (now (state .entry))) budget (flash [] [] (now (state .entry))) (flash [] [] (now (state .exit))) r ⌝ }
+pub fn mark_booted(state: &mut [u8], es: u32, ws: u32, ev: u32, budget: u32) -> u64
+    ensures { λ r. ⌜ Told (mark State.Boot (stateSizes es ws ev) (now (state .entry))) budget (flash [] [] (now (state .entry))) (flash [] [] (now (state .exit))) r ⌝ }
 {
-    packed::pack(BlockingFirmwareState::new(StateSizes { es, ws }).mark_booted(state, budget))
+    packed::pack(BlockingFirmwareState::new(StateSizes { es, ws, ev }).mark_booted(state, budget))
 }
 
 // The state of a word, by its number.

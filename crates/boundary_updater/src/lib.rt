@@ -14,11 +14,11 @@ use geometry::StateSizes;
 use packed::NO_SECTOR;
 
 // An updater with the memory that the caller kept.
-fn updater(ed: u32, wd: u32, es: u32, ws: u32, last: u32) -> BlockingFirmwareUpdater
-    ensures { λ r. ⌜ (r .sizes ≡ sizes ed wd es ws) × (lastOf r ≡ sectorOf last) ⌝ }
+fn updater(ed: u32, wd: u32, es: u32, ws: u32, ev: u32, last: u32) -> BlockingFirmwareUpdater
+    ensures { λ r. ⌜ (r .sizes ≡ sizes ed wd es ws ev) × (lastOf r ≡ sectorOf last) ⌝ }
 {
     let memory = packed::sector(last);
-    let z = StateSizes { es, ws };
+    let z = StateSizes { es, ws, ev };
     let sizes = Sizes { ed, wd, state: z };
     BlockingFirmwareUpdater {
         sizes,
@@ -34,12 +34,13 @@ pub fn read_dfu(
     wd: u32,
     es: u32,
     ws: u32,
+    ev: u32,
     offset: u32,
     out: &mut [u8],
 ) -> u64
-    ensures { λ r. ⌜ ToldRead (sizes ed wd es ws) offset (now (out .entry)) (now (out .exit)) (flash [] (now (dfu .entry)) (now (state .entry))) r ⌝ }
+    ensures { λ r. ⌜ ToldRead (sizes ed wd es ws ev) offset (now (out .entry)) (now (out .exit)) (flash [] (now (dfu .entry)) (now (state .entry))) r ⌝ }
 {
-    packed::pack(updater(ed, wd, es, ws, NO_SECTOR).read_dfu(
+    packed::pack(updater(ed, wd, es, ws, ev, NO_SECTOR).read_dfu(
         dfu,
         state,
         Offset(offset as usize),
@@ -55,15 +56,16 @@ pub fn write_firmware(
     wd: u32,
     es: u32,
     ws: u32,
+    ev: u32,
     offset: u64,
     data: &[u8],
     last: &mut u32,
     budget: u32,
 ) -> u64
-    ensures { λ r. ⌜ ToldWrite (sizes ed wd es ws) budget offset (now («data» .entry)) (now (last .entry)) (now (last .exit))
+    ensures { λ r. ⌜ ToldWrite (sizes ed wd es ws ev) budget offset (now («data» .entry)) (now (last .entry)) (now (last .exit))
         (flash [] (now (dfu .entry)) (now (state .entry))) (flash [] (now (dfu .exit)) (now (state .entry))) r ⌝ }
 {
-    let before = updater(ed, wd, es, ws, *last);
+    let before = updater(ed, wd, es, ws, ev, *last);
     let wrote = before.write_firmware(dfu, state, Offset(offset as usize), data, budget);
     let after = wrote.updater;
     let memory = after.last_erased_dfu_sector_index;
@@ -80,12 +82,13 @@ pub fn prepare_update(
     wd: u32,
     es: u32,
     ws: u32,
+    ev: u32,
     budget: u32,
 ) -> u64
-    ensures { λ r. ⌜ Told (prepareUpdate (sizes ed wd es ws) (flash [] (now (dfu .entry)) (now (state .entry)))) budget
+    ensures { λ r. ⌜ Told (prepareUpdate (sizes ed wd es ws ev) (flash [] (now (dfu .entry)) (now (state .entry)))) budget
         (flash [] (now (dfu .entry)) (now (state .entry))) (flash [] (now (dfu .exit)) (now (state .entry))) r ⌝ }
 {
-    let wrote = updater(ed, wd, es, ws, NO_SECTOR).prepare_update(dfu, state, budget);
+    let wrote = updater(ed, wd, es, ws, ev, NO_SECTOR).prepare_update(dfu, state, budget);
     let answer = wrote.answer;
     packed::pack(answer)
 }

@@ -29,54 +29,67 @@ pub extern "C" fn eb_prepare_boot(
     es: u32,
     ws: u32,
     b: u32,
+    ev: u32,
     budget: u32,
 ) -> u64
-    ensures { λ r. ⌜ Told (prepareBoot (geometry ea wa ed wd es ws b) (flash (now (active .entry)) (now (dfu .entry)) (now (state .entry)))) budget
+    ensures { λ r. ⌜ Told (prepareBoot (geometry ea wa ed wd es ws b ev) (flash (now (active .entry)) (now (dfu .entry)) (now (state .entry)))) budget
         (flash (now (active .entry)) (now (dfu .entry)) (now (state .entry)))
         (flash (now (active .exit)) (now (dfu .exit)) (now (state .exit))) r ⌝ }
 {
-    boundary_boot::prepare_boot(active, dfu, state, ea, wa, ed, wd, es, ws, b, budget)
+    boundary_boot::prepare_boot(active, dfu, state, ea, wa, ed, wd, es, ws, b, ev, budget)
 }
 
 // The boot loader's reading of the state area. The images' sizes play no part in it.
 #[no_mangle]
-pub extern "C" fn eb_read_state(state: &[u8], es: u32, ws: u32) -> u64
-    ensures { λ r. ⌜ r ≡ packed (report (getState (stateSizes es ws) (now (state .entry))) 0) ⌝ }
+pub extern "C" fn eb_read_state(state: &[u8], es: u32, ws: u32, ev: u32) -> u64
+    ensures { λ r. ⌜ r ≡ packed (report (getState (stateSizes es ws ev) (now (state .entry))) 0) ⌝ }
 {
-    boundary_boot::read_state(state, es, ws)
+    boundary_boot::read_state(state, es, ws, ev)
 }
 
 // ---- the firmware state
 
 #[no_mangle]
-pub extern "C" fn eb_state_get_state(state: &[u8], es: u32, ws: u32) -> u64
-    ensures { λ r. ⌜ r ≡ packed (report (getState (stateSizes es ws) (now (state .entry))) 0) ⌝ }
+pub extern "C" fn eb_state_get_state(state: &[u8], es: u32, ws: u32, ev: u32) -> u64
+    ensures { λ r. ⌜ r ≡ packed (report (getState (stateSizes es ws ev) (now (state .entry))) 0) ⌝ }
 {
-    boundary_state::get_state(state, es, ws)
+    boundary_state::get_state(state, es, ws, ev)
 }
 
 // The next boot swaps the images.
 #[no_mangle]
-pub extern "C" fn eb_state_mark_updated(state: &mut [u8], es: u32, ws: u32, budget: u32) -> u64
-    ensures { λ r. ⌜ Told (mark State.Swap (stateSizes es ws) (now (state .entry))) budget (flash [] [] (now (state .entry))) (flash [] [] (now (state .exit))) r ⌝ }
+pub extern "C" fn eb_state_mark_updated(
+    state: &mut [u8],
+    es: u32,
+    ws: u32,
+    ev: u32,
+    budget: u32,
+) -> u64
+    ensures { λ r. ⌜ Told (mark State.Swap (stateSizes es ws ev) (now (state .entry))) budget (flash [] [] (now (state .entry))) (flash [] [] (now (state .exit))) r ⌝ }
 {
-    boundary_state::mark_updated(state, es, ws, budget)
+    boundary_state::mark_updated(state, es, ws, ev, budget)
 }
 
 // The next boot starts the USB update.
 #[no_mangle]
-pub extern "C" fn eb_state_mark_dfu(state: &mut [u8], es: u32, ws: u32, budget: u32) -> u64
-    ensures { λ r. ⌜ Told (mark State.DfuDetach (stateSizes es ws) (now (state .entry))) budget (flash [] [] (now (state .entry))) (flash [] [] (now (state .exit))) r ⌝ }
+pub extern "C" fn eb_state_mark_dfu(state: &mut [u8], es: u32, ws: u32, ev: u32, budget: u32) -> u64
+    ensures { λ r. ⌜ Told (mark State.DfuDetach (stateSizes es ws ev) (now (state .entry))) budget (flash [] [] (now (state .entry))) (flash [] [] (now (state .exit))) r ⌝ }
 {
-    boundary_state::mark_dfu(state, es, ws, budget)
+    boundary_state::mark_dfu(state, es, ws, ev, budget)
 }
 
 // The new firmware is confirmed: the next boot does not undo the swap.
 #[no_mangle]
-pub extern "C" fn eb_state_mark_booted(state: &mut [u8], es: u32, ws: u32, budget: u32) -> u64
-    ensures { λ r. ⌜ Told (mark State.Boot (stateSizes es ws) (now (state .entry))) budget (flash [] [] (now (state .entry))) (flash [] [] (now (state .exit))) r ⌝ }
+pub extern "C" fn eb_state_mark_booted(
+    state: &mut [u8],
+    es: u32,
+    ws: u32,
+    ev: u32,
+    budget: u32,
+) -> u64
+    ensures { λ r. ⌜ Told (mark State.Boot (stateSizes es ws ev) (now (state .entry))) budget (flash [] [] (now (state .entry))) (flash [] [] (now (state .exit))) r ⌝ }
 {
-    boundary_state::mark_booted(state, es, ws, budget)
+    boundary_state::mark_booted(state, es, ws, ev, budget)
 }
 
 // ---- the firmware updater
@@ -89,10 +102,11 @@ pub extern "C" fn eb_updater_get_state(
     wd: u32,
     es: u32,
     ws: u32,
+    ev: u32,
 ) -> u64
-    ensures { λ r. ⌜ r ≡ packed (report (updaterGetState (sizes ed wd es ws) (flash [] (now (dfu .entry)) (now (state .entry)))) 0) ⌝ }
+    ensures { λ r. ⌜ r ≡ packed (report (updaterGetState (sizes ed wd es ws ev) (flash [] (now (dfu .entry)) (now (state .entry)))) 0) ⌝ }
 {
-    boundary_marks::get_state(dfu, state, ed, wd, es, ws)
+    boundary_marks::get_state(dfu, state, ed, wd, es, ws, ev)
 }
 
 // The next boot swaps the images.
@@ -104,12 +118,13 @@ pub extern "C" fn eb_updater_mark_updated(
     wd: u32,
     es: u32,
     ws: u32,
+    ev: u32,
     budget: u32,
 ) -> u64
-    ensures { λ r. ⌜ Told (updaterMarkUpdated (sizes ed wd es ws) (flash [] (now (dfu .entry)) (now (state .entry)))) budget
+    ensures { λ r. ⌜ Told (updaterMarkUpdated (sizes ed wd es ws ev) (flash [] (now (dfu .entry)) (now (state .entry)))) budget
         (flash [] (now (dfu .entry)) (now (state .entry))) (flash [] (now (dfu .entry)) (now (state .exit))) r ⌝ }
 {
-    boundary_marks::mark_updated(dfu, state, ed, wd, es, ws, budget)
+    boundary_marks::mark_updated(dfu, state, ed, wd, es, ws, ev, budget)
 }
 
 // The next boot starts the USB update. Not while a swap is pending.
@@ -121,12 +136,13 @@ pub extern "C" fn eb_updater_mark_dfu(
     wd: u32,
     es: u32,
     ws: u32,
+    ev: u32,
     budget: u32,
 ) -> u64
-    ensures { λ r. ⌜ Told (updaterMarkDfu (sizes ed wd es ws) (flash [] (now (dfu .entry)) (now (state .entry)))) budget
+    ensures { λ r. ⌜ Told (updaterMarkDfu (sizes ed wd es ws ev) (flash [] (now (dfu .entry)) (now (state .entry)))) budget
         (flash [] (now (dfu .entry)) (now (state .entry))) (flash [] (now (dfu .entry)) (now (state .exit))) r ⌝ }
 {
-    boundary_marks::mark_dfu(dfu, state, ed, wd, es, ws, budget)
+    boundary_marks::mark_dfu(dfu, state, ed, wd, es, ws, ev, budget)
 }
 
 // The new firmware is confirmed.
@@ -138,12 +154,13 @@ pub extern "C" fn eb_updater_mark_booted(
     wd: u32,
     es: u32,
     ws: u32,
+    ev: u32,
     budget: u32,
 ) -> u64
-    ensures { λ r. ⌜ Told (updaterMarkBooted (sizes ed wd es ws) (flash [] (now (dfu .entry)) (now (state .entry)))) budget
+    ensures { λ r. ⌜ Told (updaterMarkBooted (sizes ed wd es ws ev) (flash [] (now (dfu .entry)) (now (state .entry)))) budget
         (flash [] (now (dfu .entry)) (now (state .entry))) (flash [] (now (dfu .entry)) (now (state .exit))) r ⌝ }
 {
-    boundary_marks::mark_booted(dfu, state, ed, wd, es, ws, budget)
+    boundary_marks::mark_booted(dfu, state, ed, wd, es, ws, ev, budget)
 }
 
 // Fills `out` with the bytes of DFU from an offset on.
@@ -155,12 +172,13 @@ pub extern "C" fn eb_updater_read_dfu(
     wd: u32,
     es: u32,
     ws: u32,
+    ev: u32,
     offset: u32,
     out: &mut [u8],
 ) -> u64
-    ensures { λ r. ⌜ ToldRead (sizes ed wd es ws) offset (now (out .entry)) (now (out .exit)) (flash [] (now (dfu .entry)) (now (state .entry))) r ⌝ }
+    ensures { λ r. ⌜ ToldRead (sizes ed wd es ws ev) offset (now (out .entry)) (now (out .exit)) (flash [] (now (dfu .entry)) (now (state .entry))) r ⌝ }
 {
-    boundary_updater::read_dfu(dfu, state, ed, wd, es, ws, offset, out)
+    boundary_updater::read_dfu(dfu, state, ed, wd, es, ws, ev, offset, out)
 }
 
 // Writes data at an offset of DFU, sector by sector. Not while a swap is pending. The memory is the caller's, in `last`.
@@ -172,15 +190,16 @@ pub extern "C" fn eb_updater_write_firmware(
     wd: u32,
     es: u32,
     ws: u32,
+    ev: u32,
     offset: u64,
     data: &[u8],
     last: &mut u32,
     budget: u32,
 ) -> u64
-    ensures { λ r. ⌜ ToldWrite (sizes ed wd es ws) budget offset (now («data» .entry)) (now (last .entry)) (now (last .exit))
+    ensures { λ r. ⌜ ToldWrite (sizes ed wd es ws ev) budget offset (now («data» .entry)) (now (last .entry)) (now (last .exit))
         (flash [] (now (dfu .entry)) (now (state .entry))) (flash [] (now (dfu .exit)) (now (state .entry))) r ⌝ }
 {
-    boundary_updater::write_firmware(dfu, state, ed, wd, es, ws, offset, data, last, budget)
+    boundary_updater::write_firmware(dfu, state, ed, wd, es, ws, ev, offset, data, last, budget)
 }
 
 // Erases all of DFU. Not while a swap is pending. The memory isn't touched, so it isn't asked for.
@@ -192,12 +211,13 @@ pub extern "C" fn eb_updater_prepare_update(
     wd: u32,
     es: u32,
     ws: u32,
+    ev: u32,
     budget: u32,
 ) -> u64
-    ensures { λ r. ⌜ Told (prepareUpdate (sizes ed wd es ws) (flash [] (now (dfu .entry)) (now (state .entry)))) budget
+    ensures { λ r. ⌜ Told (prepareUpdate (sizes ed wd es ws ev) (flash [] (now (dfu .entry)) (now (state .entry)))) budget
         (flash [] (now (dfu .entry)) (now (state .entry))) (flash [] (now (dfu .exit)) (now (state .entry))) r ⌝ }
 {
-    boundary_updater::prepare_update(dfu, state, ed, wd, es, ws, budget)
+    boundary_updater::prepare_update(dfu, state, ed, wd, es, ws, ev, budget)
 }
 
 // ---- states

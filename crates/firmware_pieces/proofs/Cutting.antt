@@ -8,6 +8,7 @@ use native.Mathlib.Decide.{decLe}
 use native.Mathlib.Omega.{arith}
 use lib.ListN.{length, take, drop, length-drop, drop-of-length-le}
 use lib.Seq.{take-all}
+use Rattle.state.specs.declared.Cell.{Cell}
 use Rattle.state.specs.Choice.{pick}
 use Rattle.mem_flash.specs.Flash.{dfu, erase, write}
 use Rattle.rules.specs.declared.Sector.{Sector}
@@ -81,8 +82,8 @@ sector-in ed at n p e h =
     omega (arith, m, q)
 
 -- the operations of a first piece and of the rest
-pub pieces-ops : (ed at : ℕ) (m : Sector) (bytes : List ℕ) (ps : List Piece)
-    → piecesOps ed m (record { at = at; bytes = bytes } ∷ ps) ≡ pieceOps ed m at bytes ++ piecesOps ed (At (at / ed)) ps
+pub pieces-ops : (c : Cell) (ed at : ℕ) (m : Sector) (bytes : List ℕ) (ps : List Piece)
+    → piecesOps c ed m (record { at = at; bytes = bytes } ∷ ps) ≡ pieceOps c ed m at bytes ++ piecesOps c ed (At (at / ed)) ps
 unfolding piecesOps pieceOps
-pieces-ops ed at m bytes ps =
-    sym (append-assoc (pick (remembers m (at / ed)) [] (erase dfu (at / ed * ed) ed ∷ [])) (write dfu at bytes ∷ []) (piecesOps ed (At (at / ed)) ps))
+pieces-ops c ed at m bytes ps =
+    sym (append-assoc (pick (remembers m (at / ed)) [] (erase c dfu (at / ed * ed) ed ∷ [])) (write c dfu at bytes ∷ []) (piecesOps c ed (At (at / ed)) ps))

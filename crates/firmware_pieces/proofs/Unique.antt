@@ -44,4 +44,4 @@ copy-out-unique κs a x y v w p q = (refl, ap (λ (xs : List ℕ). (xs, (tt, (tt
 
 -- the memory, whether it goes on, and DFU
 pub write-pieces-unique : OneResult write-pieces-kinds.ps write-pieces-kinds.r write-pieces.Post
-write-pieces-unique κs a x y v w p q = let e = wrote-unique x y p q in (e .0, ap (λ (xs : List ℕ). (xs, (tt, (tt, (tt, (tt, (tt, tt))))))) (e .1))
+write-pieces-unique κs a x y v w p q = let e = wrote-unique x y p q in (e .0, ap (λ (xs : List ℕ). (xs, (tt, (tt, (tt, (tt, (tt, (tt, tt)))))))) (e .1))

@@ -8,6 +8,7 @@ use native.Mathlib.Omega.{arith}
 use lib.ListN.{length, take}
 use lib.Seq.{take-all, take-append-add, take-append-le}
 use borrow.Author.Tests.{eqb-true, leb-false}
+use Rattle.state.specs.declared.Cell.{Cell}
 use Rattle.state.specs.Choice.{pick}
 use Rattle.mem_flash.specs.declared.Budget.{Budget}
 use Rattle.mem_flash.specs.declared.Flow.{Flow}
@@ -69,20 +70,20 @@ none-kept zero ed m = refl
 none-kept (suc k) ed m = refl
 
 -- a write remembers nothing new
-wrote-write : (k : ℕ) {ed at : ℕ} {bs : List ℕ} {m : Sector} {xs xs′ : List ℕ} {r : Flow} → InArea k (writeOps at bs) xs xs′ r
-    → WroteBy k ed (write dfu at bs ∷ []) m m xs xs′ r
+wrote-write : (k : ℕ) {c : Cell} {ed at : ℕ} {bs : List ℕ} {m : Sector} {xs xs′ : List ℕ} {r : Flow} → InArea k (writeOps c at bs) xs xs′ r
+    → WroteBy k ed (write c dfu at bs ∷ []) m m xs xs′ r
 unfolding remembered rememberedOp placed change
 wrote-write zero {xs = xs} w = record { flash = λ a s. w dfu (flash a xs s); memory = refl }
 wrote-write (suc k) {ed} {m = m} {xs = xs} w = record { flash = λ a s. w dfu (flash a xs s); memory = none-kept k ed m }
 
-module _ (k ed s : ℕ) (m : Sector) (xs xs′ : List ℕ) (r : Flow) (p : 0 < ed)
-    (w : InArea k (λ a. eraseOps ed a (s * ed) (s * ed + ed - s * ed)) xs xs′ r) where
+module _ (c : Cell) (k ed s : ℕ) (m : Sector) (xs xs′ : List ℕ) (r : Flow) (p : 0 < ed)
+    (w : InArea k (λ a. eraseOps c ed a (s * ed) (s * ed + ed - s * ed)) xs xs′ r) where
   abbrev unit : List Op
-  unit = unitOp (s * ed) ed dfu
+  unit = unitOp c (s * ed) ed dfu
 
   erases : (a b : List ℕ) → run k unit (flash a xs b) ≡ ended (flash a xs′ b) r
   unfolding placed change
-  erases a b = erase-one k ed (s * ed) _ xs xs′ r p (omega arith) w dfu (flash a xs b)
+  erases a b = erase-one c k ed (s * ed) _ xs xs′ r p (omega arith) w dfu (flash a xs b)
 
   -- an erase that is done is remembered
   wrote-erase : (l : Budget) → r ≡ On l → WroteBy k ed unit m (At s) xs xs′ r
@@ -107,20 +108,20 @@ unfolding remembers
 last-is None e = let z : _≡_ {A = ℕ} 0 1 = cc in absurd (omega arith)
 last-is (At t) e = ap At (eqb-true _ _ e)
 
-module _ {k : ℕ} (ed at : ℕ) (bytes : List ℕ) {m : Sector} {xs : List ℕ} (xs′ : List ℕ) {r : Flow} where
+module _ {k : ℕ} (c : Cell) (ed at : ℕ) (bytes : List ℕ) {m : Sector} {xs : List ℕ} (xs′ : List ℕ) {r : Flow} where
   -- the sector was erased last
-  pub piece-again : remembers m (at / ed) ≡ true → InArea k (writeOps at bytes) xs xs′ r → WroteBy k ed (pieceOps ed m at bytes) m m xs xs′ r
+  pub piece-again : remembers m (at / ed) ≡ true → InArea k (writeOps c at bytes) xs xs′ r → WroteBy k ed (pieceOps c ed m at bytes) m m xs xs′ r
   unfolding pieceOps pick
   piece-again e w = rw e (wrote-write k w)
 
   -- it was not: the erase first
   module _ (e : remembers m (at / ed) ≡ false) (p : 0 < ed)
-      (w : InArea k (λ a. eraseOps ed a (at / ed * ed) (at / ed * ed + ed - at / ed * ed)) xs xs′ r) where
-    pub piece-cut : r ≡ Cut → WroteBy k ed (pieceOps ed m at bytes) m m xs xs′ Cut
+      (w : InArea k (λ a. eraseOps c ed a (at / ed * ed) (at / ed * ed + ed - at / ed * ed)) xs xs′ r) where
+    pub piece-cut : r ≡ Cut → WroteBy k ed (pieceOps c ed m at bytes) m m xs xs′ Cut
     unfolding pieceOps pick
-    piece-cut o = rw e (wrote-cut (wrote-erase-cut k ed (at / ed) m xs xs′ r p w o) (write dfu at bytes ∷ []) o)
+    piece-cut o = rw e (wrote-cut (wrote-erase-cut c k ed (at / ed) m xs xs′ r p w o) (write c dfu at bytes ∷ []) o)
 
-    pub piece-on : {l : Budget} {xs₂ : List ℕ} {q : Flow} → r ≡ On l → InArea (l .0) (writeOps at bytes) xs′ xs₂ q
-        → WroteBy k ed (pieceOps ed m at bytes) m (At (at / ed)) xs xs₂ q
+    pub piece-on : {l : Budget} {xs₂ : List ℕ} {q : Flow} → r ≡ On l → InArea (l .0) (writeOps c at bytes) xs′ xs₂ q
+        → WroteBy k ed (pieceOps c ed m at bytes) m (At (at / ed)) xs xs₂ q
     unfolding pieceOps pick
-    piece-on {l} o v = rw e (wrote-on (wrote-erase k ed (at / ed) m xs xs′ r p w l o) o (wrote-write (l .0) v))
+    piece-on {l} o v = rw e (wrote-on (wrote-erase c k ed (at / ed) m xs xs′ r p w l o) o (wrote-write (l .0) v))

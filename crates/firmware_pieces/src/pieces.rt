@@ -11,6 +11,7 @@ use geometry::Offset;
 use mem_flash::Budget;
 use mem_flash::Flow;
 use rules::Sector;
+use state::Cell;
 
 // What a run of pieces leaves beside the flash: the memory, and whether it goes on.
 pub struct Wrote {
@@ -32,28 +33,30 @@ fn is_last(last: Sector, sector: usize) -> bool
 fn write_piece(
     dfu: &mut [u8],
     ed: usize,
+    cell: Cell,
     last: Sector,
     offset: Offset,
     piece: &[u8],
     left: Budget,
 ) -> Wrote
     requires { ⌜ (0 < ed) × (offset .0 / ed * ed + ed ≤ length (now dfu)) ⌝ }
-    ensures { λ r. ⌜ WroteBy (left .0) ed (pieceOps ed last (offset .0) (now (piece .entry))) last (r .last) (now (dfu .entry)) (now (dfu .exit)) (r .flow)
+    ensures { λ r. ⌜ WroteBy (left .0) ed (pieceOps cell ed last (offset .0) (now (piece .entry))) last (r .last) (now (dfu .entry)) (now (dfu .exit)) (r .flow)
         × ((l : Budget) → r .flow ≡ Flow.On l → r .last ≡ Sector.At (offset .0 / ed)) ⌝ }
 {
     let sector = offset.0 / ed;
     if is_last(last, sector) {
-        let flow = mem_flash::write(dfu, offset, piece, left);
+        let flow = mem_flash::write(dfu, offset, piece, cell, left);
         return Wrote { last, flow };
     }
     let start = sector * ed;
-    let Flow::On(rest) = mem_flash::erase(dfu, Offset(start), Offset(start + ed), ed, left) else {
+    let Flow::On(rest) = mem_flash::erase(dfu, Offset(start), Offset(start + ed), ed, cell, left)
+    else {
         return Wrote {
             last,
             flow: Flow::Cut,
         };
     };
-    let flow = mem_flash::write(dfu, offset, piece, rest);
+    let flow = mem_flash::write(dfu, offset, piece, cell, rest);
     Wrote {
         last: Sector::At(sector),
         flow,
@@ -73,13 +76,14 @@ fn piece_length(ed: usize, offset: Offset, rest: usize) -> usize
 pub fn write_pieces(
     dfu: &mut [u8],
     ed: usize,
+    cell: Cell,
     last: Sector,
     offset: Offset,
     data: &[u8],
     left: Budget,
 ) -> Wrote
     requires { ⌜ (0 < ed) × (length (now dfu) % ed ≡ 0) × (0 < length (now «data») → offset .0 + length (now «data») ≤ length (now dfu)) ⌝ }
-    ensures { λ r. ⌜ WroteBy (left .0) ed (piecesOps ed last (pieces ed (offset .0) (now («data» .entry)))) last (r .last) (now (dfu .entry)) (now (dfu .exit)) (r .flow) ⌝ }
+    ensures { λ r. ⌜ WroteBy (left .0) ed (piecesOps cell ed last (pieces ed (offset .0) (now («data» .entry)))) last (r .last) (now (dfu .entry)) (now (dfu .exit)) (r .flow) ⌝ }
 {
     let mut done = 0;
     let mut at = offset.0;
@@ -88,7 +92,7 @@ pub fn write_pieces(
     while done < data.len() {
         let n = piece_length(ed, Offset(at), data.len() - done);
         let end = done + n;
-        let wrote = write_piece(dfu, ed, memory, Offset(at), &data[done..end], still);
+        let wrote = write_piece(dfu, ed, cell, memory, Offset(at), &data[done..end], still);
         memory = wrote.last;
         let flow = wrote.flow;
         let Flow::On(rest) = flow else {

@@ -10,6 +10,7 @@ use native.Mathlib.Omega.{arith}
 use lib.Dec.{eqb}
 use lib.ListN.{length, take, drop}
 use borrow.Author.Tests.{eq-eqb, ne-eqb}
+use Rattle.state.specs.declared.Cell.{Cell}
 use Rattle.state.specs.declared.State.{State}
 use Rattle.state.specs.Choice.{pick}
 use Rattle.state.specs.Magic.{magic}
@@ -17,6 +18,7 @@ use Rattle.geometry.specs.declared.Sizes.{Sizes}
 use Rattle.geometry.specs.declared.Refusal.{Refusal}
 use Rattle.geometry.specs.declared.Verdict.{Verdict}
 use Rattle.geometry.specs.declared.Verdict.the-variants as verdicts
+use Rattle.geometry.specs.Geometry.{cell}
 use Rattle.geometry.specs.Refusals.{updaterRefusal, verdict, number}
 use Rattle.geometry.proofs.Rows.{updater-admits}
 use Rattle.geometry.proofs.Tests.{number-some}
@@ -104,18 +106,22 @@ module _ (u : BlockingFirmwareUpdater) (d s : List ℕ) (offset : ℕ) (bytes : 
         let a = updater-admits (u .sizes) (length d) (length s) _ _ passed in
         (a .0 .ed .some, a .0 .dfu-units, range-in (u .sizes .wd) (length d) offset (length bytes) (a .1))
 
-    module _ {k : ℕ} {m : Sector} {d₁ : List ℕ} {r : Flow}
-        (w : WroteBy k (u .sizes .ed) (piecesOps (u .sizes .ed) (lastOf u) (pieces (u .sizes .ed) offset bytes)) (lastOf u) m d d₁ r) where
+    module _ {k : ℕ} {m : Sector} {d₁ : List ℕ} {r : Flow} {c : Cell} (h : c ≡ cell (u .sizes .state))
+        (w : WroteBy k (u .sizes .ed) (piecesOps c (u .sizes .ed) (lastOf u) (pieces (u .sizes .ed) offset bytes)) (lastOf u) m d d₁ r) where
+      -- the cells are those of the sizes
+      wrote : WroteBy k (u .sizes .ed) (piecesOps (cell (u .sizes .state)) (u .sizes .ed) (lastOf u) (pieces (u .sizes .ed) offset bytes)) (lastOf u) m d d₁ r
+      wrote = rw h at w
+
       remembers-so : remembering u m ≡ remembering u (memory k (u .sizes) (lastOf u) offset bytes (flash [] d s))
       unfolding writeFirmware updaterCall memory pick writeRefusal
-      remembers-so = ap (remembering u) (rw (eq-eqb _ _ passed) (w .memory))
+      remembers-so = ap (remembering u) (rw (eq-eqb _ _ passed) (wrote .memory))
 
       pub firmware-cut : r ≡ Cut → WroteFirmware u k offset bytes d s d₁ (remembering u m) (answers.Cut k)
       unfolding writeFirmware updaterCall writeRefusal
       firmware-cut p =
           let f = flash [] d s in
           record {
-            did = did-cut (writeFirmware (u .sizes) (lastOf u) offset bytes f) k f passed (flash [] d₁ s) r (ran _ _ _ _ _ (w .flash [] s)) p;
+            did = did-cut (writeFirmware (u .sizes) (lastOf u) offset bytes f) k f passed (flash [] d₁ s) r (ran _ _ _ _ _ (wrote .flash [] s)) p;
             updater = remembers-so;
           }
 
@@ -124,7 +130,7 @@ module _ (u : BlockingFirmwareUpdater) (d s : List ℕ) (offset : ℕ) (bytes : 
       firmware-done {l} p =
           let f = flash [] d s in
           record {
-            did = did-done (writeFirmware (u .sizes) (lastOf u) offset bytes f) k f passed (flash [] d₁ s) r (ran _ _ _ _ _ (w .flash [] s)) l p refl;
+            did = did-done (writeFirmware (u .sizes) (lastOf u) offset bytes f) k f passed (flash [] d₁ s) r (ran _ _ _ _ _ (wrote .flash [] s)) l p refl;
             updater = remembers-so;
           }
 
@@ -137,10 +143,11 @@ module _ (u : BlockingFirmwareUpdater) (d s : List ℕ) {v : Verdict}
   update-refused {k} o =
       record { did = did-refused (prepareUpdate (u .sizes) (flash [] d s)) k (flash [] d s) v _ e o; updater = refl }
 
-  module _ (o : v ≡ verdicts.Admitted) {k : ℕ} {d₁ : List ℕ} {r : Flow} (w : InArea k (λ a. eraseOps (u .sizes .ed) a 0 (length d - 0)) d d₁ r) where
-    erases : Ran k (eraseOps (u .sizes .ed) dfu 0 (length d)) (flash [] d s) (flash [] d₁ s) r
+  module _ (o : v ≡ verdicts.Admitted) {k : ℕ} {d₁ : List ℕ} {r : Flow} {c : Cell} (h : c ≡ cell (u .sizes .state))
+      (w : InArea k (λ a. eraseOps c (u .sizes .ed) a 0 (length d - 0)) d d₁ r) where
+    erases : Ran k (eraseOps (cell (u .sizes .state)) (u .sizes .ed) dfu 0 (length d)) (flash [] d s) (flash [] d₁ s) r
     unfolding placed change
-    erases = ran _ _ _ _ _ (rw (sub-zero (length d)) at (w dfu (flash [] d s)))
+    erases = ran _ _ _ _ _ (rw (sub-zero (length d), h) at (w dfu (flash [] d s)))
 
     pub update-cut : r ≡ Cut → PreparedUpdate u k d s d₁ u (answers.Cut k)
     unfolding prepareUpdate updaterCall

@@ -125,6 +125,7 @@ impl BlockingFirmwareUpdater {
         let wrote = firmware_pieces::pieces::write_pieces(
             dfu,
             sizes.ed as usize,
+            sizes.state.cell(),
             last,
             offset,
             data,
@@ -161,7 +162,8 @@ impl BlockingFirmwareUpdater {
         }
         let n = dfu.len();
         let unit = self.sizes.ed as usize;
-        let Flow::On(rest) = mem_flash::erase(dfu, Offset(0), Offset(n), unit, Budget(budget))
+        let cell = self.sizes.state.cell();
+        let Flow::On(rest) = mem_flash::erase(dfu, Offset(0), Offset(n), unit, cell, Budget(budget))
         else {
             return Written {
                 updater: self,

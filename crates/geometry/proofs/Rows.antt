@@ -25,7 +25,7 @@ pub record Limits (g : Geometry) (la ld ls : ℕ) : Type 0 where
   pub dfu : ld ≤ mostLength
   pub state : ls ≤ mostLength
 
-pub limits-in : (g : Geometry) (la ld ls : ℕ) → outside (bootNumbers g) (la ∷ ld ∷ ls ∷ []) ≡ false → Limits g la ld ls
+pub limits-in : (g : Geometry) (la ld ls : ℕ) → outside (bootNumbers g) (g .state .ev) (la ∷ ld ∷ ls ∷ []) ≡ false → Limits g la ld ls
 unfolding outside bootNumbers stateNumbers
 limits-in g la ld ls e =
     let a = any-none _ _ e in
@@ -35,7 +35,8 @@ limits-in g la ld ls e =
     let i = any-none _ _ (d .1) in
     let j = any-none _ _ (i .1) in
     let k = any-none _ _ (j .1) in
-    let l = any-none _ _ (k .1) in
+    let v = any-none _ _ (k .1) in
+    let l = any-none _ _ (v .1) in
     let m = any-none _ _ (l .1) in
     let n = any-none _ _ (m .1) in
     record {
@@ -100,11 +101,11 @@ admitted g la ld ls e =
 
 -- which row decides: the rows before it do not hold
 module _ (g : Geometry) (la ld ls : ℕ) where
-  pub boot-limit : outside (bootNumbers g) (la ∷ ld ∷ ls ∷ []) ≡ true → verdict (Refused Limit) ≡ bootRefusal g la ld ls
+  pub boot-limit : outside (bootNumbers g) (g .state .ev) (la ∷ ld ∷ ls ∷ []) ≡ true → verdict (Refused Limit) ≡ bootRefusal g la ld ls
   unfolding verdict bootRefusal
   boot-limit p = sym (row-here _ _ p)
 
-  module _ (p : outside (bootNumbers g) (la ∷ ld ∷ ls ∷ []) ≡ false) where
+  module _ (p : outside (bootNumbers g) (g .state .ev) (la ∷ ld ∷ ls ∷ []) ≡ false) where
     pub boot-page : unevenPage g ≡ true → verdict (Refused Page) ≡ bootRefusal g la ld ls
     unfolding verdict bootRefusal
     boot-page q = sym (row-past _ _ p ∙ row-here _ _ q)
@@ -124,18 +125,18 @@ module _ (g : Geometry) (la ld ls : ℕ) where
         boot-admitted s = sym (row-past _ _ p ∙ row-past _ _ q ∙ row-past _ _ r ∙ row-past _ _ s ∙ row-end)
 
 -- row 1 of a state area: its sizes are positive, so that they may divide
-state-some : (z : StateSizes) (ns : List ℕ) → outside (stateNumbers z) ns ≡ false → (0 < z .es) × (0 < z .ws)
+state-some : (z : StateSizes) (ns : List ℕ) → outside (stateNumbers z) (z .ev) ns ≡ false → (0 < z .es) × (0 < z .ws)
 unfolding outside stateNumbers
 state-some z ns p =
     let a = any-none _ _ p in
     (number-in (a .0) .some, number-in (any-none _ _ (a .1) .0) .some)
 
 module _ (z : StateSizes) (ls : ℕ) where
-  pub state-limit : outside (stateNumbers z) (ls ∷ []) ≡ true → verdict (Refused Limit) ≡ stateRefusal z ls
+  pub state-limit : outside (stateNumbers z) (z .ev) (ls ∷ []) ≡ true → verdict (Refused Limit) ≡ stateRefusal z ls
   unfolding verdict stateRefusal
   state-limit p = sym (row-here _ _ p)
 
-  module _ (p : outside (stateNumbers z) (ls ∷ []) ≡ false) where
+  module _ (p : outside (stateNumbers z) (z .ev) (ls ∷ []) ≡ false) where
     pub state-numbers : (0 < z .es) × (0 < z .ws)
     state-numbers = state-some z _ p
 
@@ -149,11 +150,11 @@ module _ (z : StateSizes) (ls : ℕ) where
 
 -- the updater: rows 1 to 4
 module _ (z : Sizes) (ld ls : ℕ) where
-  pub updater-limit : outside (updaterNumbers z) (ld ∷ ls ∷ []) ≡ true → verdict (Refused Limit) ≡ updaterRefusal z ld ls false false
+  pub updater-limit : outside (updaterNumbers z) (z .state .ev) (ld ∷ ls ∷ []) ≡ true → verdict (Refused Limit) ≡ updaterRefusal z ld ls false false
   unfolding verdict updaterRefusal updaterRows
   updater-limit p = sym (row-here _ _ p)
 
-  module _ (p : outside (updaterNumbers z) (ld ∷ ls ∷ []) ≡ false) where
+  module _ (p : outside (updaterNumbers z) (z .state .ev) (ld ∷ ls ∷ []) ≡ false) where
     -- the numbers are positive, so that they may divide
     pub updater-numbers : (0 < z .ed) × (0 < z .wd) × (0 < z .state .es) × (0 < z .state .ws)
     unfolding outside updaterNumbers
@@ -203,7 +204,8 @@ updater-admits z ld ls swap range e =
     let b = any-none _ _ (a .1) in
     let c = any-none _ _ (b .1) in
     let d = any-none _ _ (c .1) in
-    let l = any-none _ _ (d .1) in
+    let v = any-none _ _ (d .1) in
+    let l = any-none _ _ (v .1) in
     (record { ed = number-in (a .0); wd = number-in (b .0); dfu-units = even _ _ (t .0); dfu-most = length-in _ (l .0) }, w .0)
 
 -- rows 1 to 4 of the updater, said of any rows 5 and 6

@@ -12,6 +12,8 @@ use Rattle.geometry.specs.declared.Verdict.the-variants.{Admitted, Refus
 use Rattle.geometry.specs.Refusals.{number, verdict}
 use Rattle.geometry.proofs.Refusal.number.Kinds as number-kinds
 use Rattle.geometry.proofs.Refusal.number.Reads as number-reads
+use Rattle.geometry.proofs.StateSizes.cell.Kinds as cell-kinds
+use Rattle.geometry.proofs.StateSizes.cell.Reads as cell
 use Rattle.geometry.proofs.Geometry.page_size.Kinds as page-size-kinds
 use Rattle.geometry.proofs.Geometry.page_size.Reads as page-size
 use Rattle.geometry.proofs.least.Kinds as least-kinds
@@ -53,6 +55,9 @@ verdict-unique v w e = sym (verdict-back v) ∙ ap verdictOf e ∙ verdict-back 
 
 pub number-unique : OneResult number-kinds.ps number-kinds.r number-reads.Post
 number-unique κs a x y v w p q = (p ∙ sym q, refl)
+
+pub cell-unique : OneResult cell-kinds.ps cell-kinds.r cell.Post
+cell-unique κs a x y v w p q = (p ∙ sym q, refl)
 
 pub page-size-unique : OneResult page-size-kinds.ps page-size-kinds.r page-size.Post
 page-size-unique κs a x y v w p q = (p ∙ sym q, refl)

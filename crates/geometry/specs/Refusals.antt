@@ -3,7 +3,9 @@ use mathlib.Core.Bool.{Bool, true, false, not}
 use mathlib.Core.List.{List, [], _∷_, map, _++_}
 use Prim.Native.Nat.{ℕ, _+_, _*_, _%_}
 use lib.Dec.{ltb, eqb}
+use Rattle.state.specs.declared.Cell.the-variants.{High, Low}
 use Rattle.state.specs.Choice.{pick}
+use Rattle.state.specs.Cells.{erased}
 use Rattle.geometry.specs.declared.Geometry.{Geometry}
 use Rattle.geometry.specs.declared.StateSizes.{StateSizes}
 use Rattle.geometry.specs.declared.Sizes.{Sizes}
@@ -54,6 +56,10 @@ mostLength = 16777216
 unfoldable pub badNumber : ℕ → Bool
 badNumber n = any (eqb n 0 ∷ ltb mostNumber n ∷ [])
 
+-- the erase value is that of no cell
+unfoldable pub badValue : ℕ → Bool
+badValue v = not (any (eqb v (erased High) ∷ eqb v (erased Low) ∷ []))
+
 unfoldable pub tooLong : ℕ → Bool
 tooLong n = ltb mostLength n
 
@@ -61,9 +67,9 @@ tooLong n = ltb mostLength n
 unfoldable pub uneven : ℕ → ℕ → Bool
 uneven n m = not (eqb (n % m) 0)
 
--- row 1: a number that the call reads, or the length of an area that it is lent
-unfoldable pub outside : List ℕ → List ℕ → Bool
-outside numbers lengths = any (map badNumber numbers ++ map tooLong lengths)
+-- row 1: a number that the call reads, the erase value, or the length of an area that it is lent
+unfoldable pub outside : List ℕ → ℕ → List ℕ → Bool
+outside numbers value lengths = any (map badNumber numbers ++ (badValue value ∷ map tooLong lengths))
 
 -- row 2, boot
 unfoldable pub unevenPage : Geometry → Bool
@@ -108,7 +114,7 @@ updaterNumbers z = z .ed ∷ z .wd ∷ stateNumbers (z .state)
 unfoldable pub bootRefusal : Geometry → ℕ → ℕ → ℕ → ℕ
 bootRefusal g la ld ls =
     firstRow
-    (row Limit (outside (bootNumbers g) (la ∷ ld ∷ ls ∷ []))
+    (row Limit (outside (bootNumbers g) (g .state .ev) (la ∷ ld ∷ ls ∷ []))
     ∷ row Page (unevenPage g)
     ∷ row Area (unevenAreas g la ld)
     ∷ row StateArea (badState (bootWords (pages g la)) (g .state) ls)
@@ -117,12 +123,12 @@ bootRefusal g la ld ls =
 -- the calls that read the state area alone: read_state and those of the firmware state
 unfoldable pub stateRefusal : StateSizes → ℕ → ℕ
 stateRefusal z ls =
-    firstRow (row Limit (outside (stateNumbers z) (ls ∷ [])) ∷ row StateArea (badState otherWords z ls) ∷ [])
+    firstRow (row Limit (outside (stateNumbers z) (z .ev) (ls ∷ [])) ∷ row StateArea (badState otherWords z ls) ∷ [])
 
 -- the rows that all of the updater's calls ask
 unfoldable pub updaterRows : Sizes → ℕ → ℕ → List Row
 updaterRows z ld ls =
-    row Limit (outside (updaterNumbers z) (ld ∷ ls ∷ []))
+    row Limit (outside (updaterNumbers z) (z .state .ev) (ld ∷ ls ∷ []))
     ∷ row Page (uneven (z .ed) (z .wd))
     ∷ row Area (uneven ld (z .ed))
     ∷ row StateArea (badState otherWords (z .state) ls)

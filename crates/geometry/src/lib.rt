@@ -1,13 +1,16 @@
 // The geometry of the three areas, and the refusals that stand for the Rust's assertions on it. `verdicts` judges by them.
 ghost use mathlib.Core.Path.{_≡_};
 ghost use Prim.Native.Nat.{min};
-ghost use Rattle.geometry.specs.Geometry.{page};
+ghost use Rattle.geometry.specs.Geometry.{cell, page};
 ghost use Rattle.geometry.specs.Refusals.{number};
+use state::Cell;
 
-// The sizes of the state area: its erase size and its write size.
+// The sizes of the state area: its erase size and its write size; and the erase value, 255 or 0, which the three areas share. It stands
+// here since every call reads the state area.
 pub struct StateSizes {
     pub es: u32,
     pub ws: u32,
+    pub ev: u32,
 }
 
 // The sizes in bytes. In the Rust they are constants of the flash types, and the chunk is the length of a buffer.
@@ -71,6 +74,15 @@ impl Refusal {
             Refusal::BadState => 5,
             Refusal::Range => 6,
         }
+    }
+}
+
+impl StateSizes {
+    // The cells that the erase value tells of. The Rust is built for one or the other.
+    pub fn cell(self) -> Cell
+        ensures { λ r. ⌜ r ≡ cell self ⌝ }
+    {
+        if self.ev == 0 { Cell::Low } else { Cell::High }
     }
 }
 

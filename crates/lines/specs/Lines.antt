@@ -6,6 +6,8 @@ use Prim.Native.Nat.{ℕ, _+_, _-_, min}
 use lib.Dec.{leb, ltb, eqb}
 use lib.ListN.{length, getD, drop}
 use lib.Seq.{paste}
+use Rattle.state.specs.declared.Cell.the-variants.{High}
+use Rattle.state.specs.Cells.{erased}
 use Rattle.state.specs.Choice.{pick}
 use Rattle.numerals.specs.Text.{space, first, split, numbers, exactly, row}
 use Rattle.lines.specs.declared.SizesLine.{SizesLine}
@@ -55,7 +57,7 @@ heldThen most held n piece at = paste held n (drop at piece) (min (first lineFee
 
 -- ---- what a line says
 
--- the first line: Ea Wa Ed Wd Es Ws b
+-- the first line: Ea Wa Ed Wd Es Ws b; the flash of the bench erases to FF
 unfoldable pub sizesOf : Option (List ℕ) → SizesLine
 sizesOf none = sizes-line.Other
 sizesOf (some ns) =
@@ -65,7 +67,7 @@ sizesOf (some ns) =
       wa = getD ns 1 0;
       ed = getD ns 2 0;
       wd = getD ns 3 0;
-      state = record { es = getD ns 4 0; ws = getD ns 5 0 };
+      state = record { es = getD ns 4 0; ws = getD ns 5 0; ev = erased High };
       b = getD ns 6 0;
     })
 

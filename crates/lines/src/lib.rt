@@ -8,6 +8,7 @@ ghost use Rattle.lines.specs.Lines.{named as Lines·named};
 use geometry::Geometry;
 use geometry::StateSizes;
 use numerals::SPACE;
+use state::State;
 
 // The first line.
 pub enum SizesLine {
@@ -86,7 +87,7 @@ fn gather(held: &mut [u8], n: usize, piece: &[u8], at: usize) -> Taken
     Taken::Part(m)
 }
 
-// Ea Wa Ed Wd Es Ws b.
+// Ea Wa Ed Wd Es Ws b. The erase value is not in the line: the flash of the bench erases as the Rust's default build has it.
 pub fn read_sizes(line: &[u8]) -> SizesLine
     ensures { λ r. ⌜ r ≡ sizesLine (now (line .entry)) ⌝ }
 {
@@ -99,7 +100,11 @@ pub fn read_sizes(line: &[u8]) -> SizesLine
         wa: n[1],
         ed: n[2],
         wd: n[3],
-        state: StateSizes { es: n[4], ws: n[5] },
+        state: StateSizes {
+            es: n[4],
+            ws: n[5],
+            ev: State::ERASE_VALUE as u32,
+        },
         b: n[6],
     })
 }

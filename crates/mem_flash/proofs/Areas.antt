@@ -46,8 +46,8 @@ change-lengths state h f e = record { active = refl; dfu = refl; state = e (f .s
 
 apply-lengths : (o : Op) (f : Flash) → SameLengths (apply o f) f
 unfolding apply
-apply-lengths (erase a from n) f = change-lengths a (erasedAt from n) f (length-erased from n)
-apply-lengths (write a at bs) f = change-lengths a (writtenAt at bs) f (length-written at bs)
+apply-lengths (erase c a from n) f = change-lengths a (erasedAt c from n) f (length-erased c from n)
+apply-lengths (write c a at bs) f = change-lengths a (writtenAt c at bs) f (length-written c at bs)
 
 pub all-lengths : (os : List Op) (f : Flash) → SameLengths (applyAll os f) f
 unfolding applyAll

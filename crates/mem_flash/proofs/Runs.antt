@@ -7,6 +7,7 @@ use native.Mathlib.Nat.{sub-zero, suc-sub-suc, not-suc-le-zero, div-zero, zero-d
 use native.Mathlib.Omega.{arith}
 use lib.Dec.{leb·zero, leb·suc-zero, leb·suc-suc}
 use lib.ListN.{length}
+use Rattle.state.specs.declared.Cell.{Cell}
 use Rattle.state.specs.Choice.{pick}
 use Rattle.mem_flash.specs.declared.Budget.{Budget}
 use Rattle.mem_flash.specs.declared.Flow.{Flow}
@@ -81,34 +82,35 @@ unfolding run
 run-one zero o f h = absurd (not-suc-le-zero h)
 run-one (suc k) o f h = let e : suc k - 1 ≡ k = omega arith in rw e
 
-pub erase-placed : (a : Area) (from n : ℕ) (xs : List ℕ) (f : Flash) → apply (erase a from n) (placed a xs f) ≡ placed a (erasedAt from n xs) f
-unfolding apply placed change
-erase-placed active from n xs f = refl
-erase-placed dfu from n xs f = refl
-erase-placed state from n xs f = refl
+module _ (c : Cell) where
+  pub erase-placed : (a : Area) (from n : ℕ) (xs : List ℕ) (f : Flash) → apply (erase c a from n) (placed a xs f) ≡ placed a (erasedAt c from n xs) f
+  unfolding apply placed change
+  erase-placed active from n xs f = refl
+  erase-placed dfu from n xs f = refl
+  erase-placed state from n xs f = refl
 
-pub write-placed : (a : Area) (at : ℕ) (bs xs : List ℕ) (f : Flash) → apply (write a at bs) (placed a xs f) ≡ placed a (writtenAt at bs xs) f
-unfolding apply placed change
-write-placed active at bs xs f = refl
-write-placed dfu at bs xs f = refl
-write-placed state at bs xs f = refl
+  pub write-placed : (a : Area) (at : ℕ) (bs xs : List ℕ) (f : Flash) → apply (write c a at bs) (placed a xs f) ≡ placed a (writtenAt c at bs xs) f
+  unfolding apply placed change
+  write-placed active at bs xs f = refl
+  write-placed dfu at bs xs f = refl
+  write-placed state at bs xs f = refl
 
-pub cut-erase : (k at n : ℕ) (xs : List ℕ) → k ≡ 0 → InArea k (unitOp at n) xs xs Cut
-cut-erase k at n xs e a f = run-cut k _ _ _ e
+  pub cut-erase : (k at n : ℕ) (xs : List ℕ) → k ≡ 0 → InArea k (unitOp c at n) xs xs Cut
+  cut-erase k at n xs e a f = run-cut k _ _ _ e
 
-pub cut-write : (k at : ℕ) (bs xs : List ℕ) → k ≡ 0 → InArea k (writeOps at bs) xs xs Cut
-cut-write k at bs xs e a f = run-cut k _ _ _ e
+  pub cut-write : (k at : ℕ) (bs xs : List ℕ) → k ≡ 0 → InArea k (writeOps c at bs) xs xs Cut
+  cut-write k at bs xs e a f = run-cut k _ _ _ e
 
-module _ (k : ℕ) (xs xs′ : List ℕ) (h : 0 < k) where
-  pub on-erase : (at n : ℕ) → xs′ ≡ erasedAt at n xs → InArea k (unitOp at n) xs xs′ (on (k - 1))
-  on-erase at n e a f =
-      run-one k (erase a at n) (placed a xs f) h
-      ∙ ap (λ g. ended g (on (k - 1))) (erase-placed a at n xs f ∙ ap (λ l. placed a l f) (sym e))
+  module _ (k : ℕ) (xs xs′ : List ℕ) (h : 0 < k) where
+    pub on-erase : (at n : ℕ) → xs′ ≡ erasedAt c at n xs → InArea k (unitOp c at n) xs xs′ (on (k - 1))
+    on-erase at n e a f =
+        run-one k (erase c a at n) (placed a xs f) h
+        ∙ ap (λ g. ended g (on (k - 1))) (erase-placed a at n xs f ∙ ap (λ l. placed a l f) (sym e))
 
-  pub on-write : (at : ℕ) (bs : List ℕ) → xs′ ≡ writtenAt at bs xs → InArea k (writeOps at bs) xs xs′ (on (k - 1))
-  on-write at bs e a f =
-      run-one k (write a at bs) (placed a xs f) h
-      ∙ ap (λ g. ended g (on (k - 1))) (write-placed a at bs xs f ∙ ap (λ l. placed a l f) (sym e))
+    pub on-write : (at : ℕ) (bs : List ℕ) → xs′ ≡ writtenAt c at bs xs → InArea k (writeOps c at bs) xs xs′ (on (k - 1))
+    on-write at bs e a f =
+        run-one k (write c a at bs) (placed a xs f) h
+        ∙ ap (λ g. ended g (on (k - 1))) (write-placed a at bs xs f ∙ ap (λ l. placed a l f) (sym e))
 
 -- ---- operations on one area, and then more
 
@@ -125,41 +127,42 @@ module _ (k : ℕ) (os : Area → List Op) (xs xs₁ : List ℕ) (r : Flow) (w :
 pub one-more : (count i : ℕ) → i < count → count - i ≡ suc (count - (i + 1))
 one-more count i h = omega arith
 
-module _ (k at unit end count i : ℕ) (xs xs′ : List ℕ) (r : Flow) (w : InArea k (unitOp at (end - at)) xs xs′ r) (e : end ≡ at + unit)
-    (h : i < count) where
-  one : InArea k (unitOp at unit) xs xs′ r
-  one = let z : end - at ≡ unit = omega arith in rw z at w
+module _ (c : Cell) where
+  module _ (k at unit end count i : ℕ) (xs xs′ : List ℕ) (r : Flow) (w : InArea k (unitOp c at (end - at)) xs xs′ r) (e : end ≡ at + unit)
+      (h : i < count) where
+    one : InArea k (unitOp c at unit) xs xs′ r
+    one = let z : end - at ≡ unit = omega arith in rw z at w
 
-  pub unit-on : (l : Budget) → r ≡ On l → (a : Area) (f : Flash)
-      → run k (unitOps (count - i) unit a at) (placed a xs f) ≡ run (l .0) (unitOps (count - (i + 1)) unit a end) (placed a xs′ f)
-  unfolding unitOps
-  unit-on l o a f = rw (one-more count i h, e) (then-on k (unitOp at unit a) _ (placed a xs f) (placed a xs′ f) r (one a f) l o)
+    pub unit-on : (l : Budget) → r ≡ On l → (a : Area) (f : Flash)
+        → run k (unitOps c (count - i) unit a at) (placed a xs f) ≡ run (l .0) (unitOps c (count - (i + 1)) unit a end) (placed a xs′ f)
+    unfolding unitOps
+    unit-on l o a f = rw (one-more count i h, e) (then-on k (unitOp c at unit a) _ (placed a xs f) (placed a xs′ f) r (one a f) l o)
 
-  pub unit-cut : r ≡ Cut → (a : Area) (f : Flash) → run k (unitOps (count - i) unit a at) (placed a xs f) ≡ ended (placed a xs′ f) Cut
-  unfolding unitOps
-  unit-cut o a f = rw (one-more count i h) (then-cut k (unitOp at unit a) _ (placed a xs f) (placed a xs′ f) r (one a f) o)
+    pub unit-cut : r ≡ Cut → (a : Area) (f : Flash) → run k (unitOps c (count - i) unit a at) (placed a xs f) ≡ ended (placed a xs′ f) Cut
+    unfolding unitOps
+    unit-cut o a f = rw (one-more count i h) (then-cut k (unitOp c at unit a) _ (placed a xs f) (placed a xs′ f) r (one a f) o)
 
--- no unit is left to erase
-pub units-none : (k count unit at : ℕ) (xs : List ℕ) → count ≡ 0 → InArea k (λ a. unitOps count unit a at) xs xs (on k)
-unfolding unitOps run
-units-none k count unit at xs e a f = rw e
+  -- no unit is left to erase
+  pub units-none : (k count unit at : ℕ) (xs : List ℕ) → count ≡ 0 → InArea k (λ a. unitOps c count unit a at) xs xs (on k)
+  unfolding unitOps run
+  units-none k count unit at xs e a f = rw e
 
--- units of no bytes, or an end before the start
-pub erase-unitless : (k unit from n : ℕ) (xs : List ℕ) → unit ≡ 0 → InArea k (λ a. eraseOps unit a from n) xs xs (on k)
-unfolding eraseOps
-erase-unitless k unit from n xs e = units-none k (n / unit) unit from xs (ap (λ (u : ℕ). n / u) e ∙ div-zero n)
+  -- units of no bytes, or an end before the start
+  pub erase-unitless : (k unit from n : ℕ) (xs : List ℕ) → unit ≡ 0 → InArea k (λ a. eraseOps c unit a from n) xs xs (on k)
+  unfolding eraseOps
+  erase-unitless k unit from n xs e = units-none k (n / unit) unit from xs (ap (λ (u : ℕ). n / u) e ∙ div-zero n)
 
-pub erase-nothing : (k unit from n : ℕ) (xs : List ℕ) → n ≡ 0 → InArea k (λ a. eraseOps unit a from n) xs xs (on k)
-unfolding eraseOps
-erase-nothing k unit from n xs e = units-none k (n / unit) unit from xs (ap (λ (m : ℕ). m / unit) e ∙ zero-div unit)
+  pub erase-nothing : (k unit from n : ℕ) (xs : List ℕ) → n ≡ 0 → InArea k (λ a. eraseOps c unit a from n) xs xs (on k)
+  unfolding eraseOps
+  erase-nothing k unit from n xs e = units-none k (n / unit) unit from xs (ap (λ (m : ℕ). m / unit) e ∙ zero-div unit)
 
--- one unit
-pub erase-one : (k unit from n : ℕ) (xs xs′ : List ℕ) (r : Flow) → 0 < unit → n ≡ unit → InArea k (λ a. eraseOps unit a from n) xs xs′ r
-    → InArea k (unitOp from unit) xs xs′ r
-unfolding eraseOps unitOps
-erase-one k unit from n xs xs′ r h e w = let z : n / unit ≡ 1 = ap (λ (m : ℕ). m / unit) e ∙ div-self h in rw z at w
+  -- one unit
+  pub erase-one : (k unit from n : ℕ) (xs xs′ : List ℕ) (r : Flow) → 0 < unit → n ≡ unit → InArea k (λ a. eraseOps c unit a from n) xs xs′ r
+      → InArea k (unitOp c from unit) xs xs′ r
+  unfolding eraseOps unitOps
+  erase-one k unit from n xs xs′ r h e w = let z : n / unit ≡ 1 = ap (λ (m : ℕ). m / unit) e ∙ div-self h in rw z at w
 
-pub erase-all : (k unit from n : ℕ) (xs xs′ : List ℕ) (r : Flow) → InArea k (λ a. unitOps (n / unit) unit a from) xs xs′ r
-    → InArea k (λ a. eraseOps unit a from n) xs xs′ r
-unfolding eraseOps
-erase-all k unit from n xs xs′ r w = w
+  pub erase-all : (k unit from n : ℕ) (xs xs′ : List ℕ) (r : Flow) → InArea k (λ a. unitOps c (n / unit) unit a from) xs xs′ r
+      → InArea k (λ a. eraseOps c unit a from n) xs xs′ r
+  unfolding eraseOps
+  erase-all k unit from n xs xs′ r w = w

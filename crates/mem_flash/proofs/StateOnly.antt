@@ -4,27 +4,28 @@ use mathlib.Core.Path.{_≡_, refl}
 use mathlib.Core.List.{List, [], _∷_, _++_}
 use Prim.Native.Nat.{ℕ, zero, suc, _+_, _/_}
 use lib.ListN.{take}
+use Rattle.state.specs.declared.Cell.{Cell}
 use Rattle.mem_flash.specs.Flash.{state, Op, erase, write, change, apply, applyAll, after, unitOps, eraseOps}
 use Rattle.mem_flash.specs.Run.{flash}
 
 pub data OnState : List Op → Type 0 where
   nothing : OnState []
-  erases : {from n : ℕ} {os : List Op} → OnState os → OnState (erase state from n ∷ os)
-  writes : {at : ℕ} {bs : List ℕ} {os : List Op} → OnState os → OnState (write state at bs ∷ os)
+  erases : {c : Cell} {from n : ℕ} {os : List Op} → OnState os → OnState (erase c state from n ∷ os)
+  writes : {c : Cell} {at : ℕ} {bs : List ℕ} {os : List Op} → OnState os → OnState (write c state at bs ∷ os)
 
 pub on-append : {os ps : List Op} → OnState os → OnState ps → OnState (os ++ ps)
 on-append nothing q = q
 on-append (erases p) q = erases (on-append p q)
 on-append (writes p) q = writes (on-append p q)
 
-on-units : (n unit from : ℕ) → OnState (unitOps n unit state from)
+on-units : (c : Cell) (n unit from : ℕ) → OnState (unitOps c n unit state from)
 unfolding unitOps
-on-units zero unit from = nothing
-on-units (suc n) unit from = erases (on-units n unit (from + unit))
+on-units c zero unit from = nothing
+on-units c (suc n) unit from = erases (on-units c n unit (from + unit))
 
-pub on-erase : (unit from n : ℕ) → OnState (eraseOps unit state from n)
+pub on-erase : (c : Cell) (unit from n : ℕ) → OnState (eraseOps c unit state from n)
 unfolding eraseOps
-on-erase unit from n = on-units (n / unit) unit from
+on-erase c unit from n = on-units c (n / unit) unit from
 
 on-take : (k : ℕ) {os : List Op} → OnState os → OnState (take k os)
 on-take zero p = nothing

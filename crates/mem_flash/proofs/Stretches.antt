@@ -7,10 +7,12 @@ use native.Mathlib.Nat.{zero-add, suc-add, not-suc-le-zero, le-of-suc-le-suc}
 use native.Mathlib.Omega.{arith}
 use lib.ListN.{length, take, drop, replicate, length-append, length-drop, length-replicate, take-append-drop, drop-of-length-le}
 use lib.Seq.{take-at, drop-at, take-append-le, drop-append-add, take-take, drop-drop, length-take-le}
-use Rattle.state.specs.Magic.{erased}
-use Rattle.mem_flash.specs.Flash.{programmed, blank, program, erasedAt, writtenAt}
+use Rattle.state.specs.declared.Cell.{Cell}
+use Rattle.state.specs.Cells.{erased, programmed}
+use Rattle.mem_flash.specs.Flash.{blank, program, erasedAt, writtenAt}
 use Rattle.mem_flash.specs.Areas.{Bytes}
-use Rattle.mem_flash.proofs.Bytes.{programmed-erased, program-none}
+use Rattle.state.proofs.Cells.{programmed-erased}
+use Rattle.mem_flash.proofs.Bytes.{program-none}
 
 -- ---- lists of bytes
 
@@ -34,87 +36,88 @@ bytes-replicate (suc n) x h = (h, bytes-replicate n x h)
 
 -- ---- erases and writes
 
--- within an area an erase is a run of erased bytes
-pub blank-is : (n : ℕ) (ys : List ℕ) → n ≤ length ys → blank n ys ≡ replicate n erased ++ drop n ys
-unfolding blank
-blank-is zero ys h = refl
-blank-is (suc n) [] h = absurd (not-suc-le-zero h)
-blank-is (suc n) (y ∷ ys) h = ap (λ (l : List ℕ). erased ∷ l) (blank-is n ys (le-of-suc-le-suc h))
+module _ (c : Cell) where
+  -- within an area an erase is a run of erased bytes
+  pub blank-is : (n : ℕ) (ys : List ℕ) → n ≤ length ys → blank c n ys ≡ replicate n (erased c) ++ drop n ys
+  unfolding blank
+  blank-is zero ys h = refl
+  blank-is (suc n) [] h = absurd (not-suc-le-zero h)
+  blank-is (suc n) (y ∷ ys) h = ap (λ (l : List ℕ). erased c ∷ l) (blank-is n ys (le-of-suc-le-suc h))
 
-pub erased-within : (from n : ℕ) (xs : List ℕ) → from + n ≤ length xs
-    → erasedAt from n xs ≡ take from xs ++ (replicate n erased ++ drop (from + n) xs)
-unfolding erasedAt
-erased-within from n xs fit =
-    ap (λ (l : List ℕ). take from xs ++ l)
-    (blank-is n (drop from xs) (simp length-drop (omega arith))
-    ∙ ap (λ (l : List ℕ). replicate n erased ++ l) (drop-drop n from xs))
+  pub erased-within : (from n : ℕ) (xs : List ℕ) → from + n ≤ length xs
+      → erasedAt c from n xs ≡ take from xs ++ (replicate n (erased c) ++ drop (from + n) xs)
+  unfolding erasedAt
+  erased-within from n xs fit =
+      ap (λ (l : List ℕ). take from xs ++ l)
+      (blank-is n (drop from xs) (simp length-drop (omega arith))
+      ∙ ap (λ (l : List ℕ). replicate n (erased c) ++ l) (drop-drop n from xs))
 
--- an erase of all bytes
-pub blank-all : (n : ℕ) (ys : List ℕ) → length ys ≡ n → blank n ys ≡ replicate n erased
-blank-all n ys e =
-    blank-is n ys (omega arith) ∙ ap (λ (l : List ℕ). replicate n erased ++ l) (drop-of-length-le ys {i = n} (omega arith))
-    ∙ append-nil (replicate n erased)
+  -- an erase of all bytes
+  pub blank-all : (n : ℕ) (ys : List ℕ) → length ys ≡ n → blank c n ys ≡ replicate n (erased c)
+  blank-all n ys e =
+      blank-is n ys (omega arith) ∙ ap (λ (l : List ℕ). replicate n (erased c) ++ l) (drop-of-length-le ys {i = n} (omega arith))
+      ∙ append-nil (replicate n (erased c))
 
--- an erase, and one right behind it, are one erase of both stretches
-erased-nil : (from n : ℕ) → erasedAt from n [] ≡ []
-unfolding erasedAt blank
-erased-nil zero zero = refl
-erased-nil zero (suc n) = refl
-erased-nil (suc from) zero = refl
-erased-nil (suc from) (suc n) = refl
+  -- an erase, and one right behind it, are one erase of both stretches
+  erased-nil : (from n : ℕ) → erasedAt c from n [] ≡ []
+  unfolding erasedAt blank
+  erased-nil zero zero = refl
+  erased-nil zero (suc n) = refl
+  erased-nil (suc from) zero = refl
+  erased-nil (suc from) (suc n) = refl
 
-blank-add : (n m : ℕ) (xs : List ℕ) → erasedAt n m (blank n xs) ≡ blank (n + m) xs
-unfolding erasedAt blank
-blank-add zero m xs = ap (λ (k : ℕ). blank k xs) (sym (zero-add m))
-blank-add (suc n) m [] = erased-nil (suc n) m ∙ sym (erased-nil 0 (suc n + m))
-blank-add (suc n) m (x ∷ xs) = rw (suc-add n m) (ap (λ (l : List ℕ). erased ∷ l) (blank-add n m xs))
+  blank-add : (n m : ℕ) (xs : List ℕ) → erasedAt c n m (blank c n xs) ≡ blank c (n + m) xs
+  unfolding erasedAt blank
+  blank-add zero m xs = ap (λ (k : ℕ). blank c k xs) (sym (zero-add m))
+  blank-add (suc n) m [] = erased-nil (suc n) m ∙ sym (erased-nil 0 (suc n + m))
+  blank-add (suc n) m (x ∷ xs) = rw (suc-add n m) (ap (λ (l : List ℕ). erased c ∷ l) (blank-add n m xs))
 
-pub erased-add : (from n m : ℕ) (xs : List ℕ) → erasedAt (from + n) m (erasedAt from n xs) ≡ erasedAt from (n + m) xs
-unfolding erasedAt
-erased-add zero n m xs = ap (λ (k : ℕ). erasedAt k m (blank n xs)) (zero-add n) ∙ blank-add n m xs
-erased-add (suc from) n m [] =
-    ap (erasedAt (suc from + n) m) (erased-nil (suc from) n) ∙ erased-nil (suc from + n) m ∙ sym (erased-nil (suc from) (n + m))
-erased-add (suc from) n m (x ∷ xs) = rw (suc-add from n) (ap (λ (l : List ℕ). x ∷ l) (erased-add from n m xs))
+  pub erased-add : (from n m : ℕ) (xs : List ℕ) → erasedAt c (from + n) m (erasedAt c from n xs) ≡ erasedAt c from (n + m) xs
+  unfolding erasedAt
+  erased-add zero n m xs = ap (λ (k : ℕ). erasedAt c k m (blank c n xs)) (zero-add n) ∙ blank-add n m xs
+  erased-add (suc from) n m [] =
+      ap (erasedAt c (suc from + n) m) (erased-nil (suc from) n) ∙ erased-nil (suc from + n) m ∙ sym (erased-nil (suc from) (n + m))
+  erased-add (suc from) n m (x ∷ xs) = rw (suc-add from n) (ap (λ (l : List ℕ). x ∷ l) (erased-add from n m xs))
 
--- bytes programmed onto as many erased ones
-program-erased : (ys zs : List ℕ) → Bytes ys → program (replicate (length ys) erased ++ zs) ys ≡ ys ++ zs
-unfolding program
-program-erased [] zs h = program-none zs
-program-erased (y ∷ ys) zs h =
-    ap₂ (λ (a : ℕ) (r : List ℕ). a ∷ r) (programmed-erased y (h .0)) (program-erased ys zs (h .1))
+  -- bytes programmed onto as many erased ones
+  program-erased : (ys zs : List ℕ) → Bytes ys → program c (replicate (length ys) (erased c) ++ zs) ys ≡ ys ++ zs
+  unfolding program
+  program-erased [] zs h = program-none c zs
+  program-erased (y ∷ ys) zs h =
+      ap₂ (λ (a : ℕ) (r : List ℕ). a ∷ r) (programmed-erased c y (h .0)) (program-erased ys zs (h .1))
 
--- programming bs changes the first length bs bytes at most
-program-split : (xs bs : List ℕ) → program xs bs ≡ program (take (length bs) xs) bs ++ drop (length bs) xs
-unfolding program
-program-split xs [] = program-none xs
-program-split [] (b ∷ bs) = refl
-program-split (x ∷ xs) (b ∷ bs) = ap (λ (r : List ℕ). programmed x b ∷ r) (program-split xs bs)
+  -- programming bs changes the first length bs bytes at most
+  program-split : (xs bs : List ℕ) → program c xs bs ≡ program c (take (length bs) xs) bs ++ drop (length bs) xs
+  unfolding program
+  program-split xs [] = program-none c xs
+  program-split [] (b ∷ bs) = refl
+  program-split (x ∷ xs) (b ∷ bs) = ap (λ (r : List ℕ). programmed c x b ∷ r) (program-split xs bs)
 
--- no erase and no write changes the length of an area, wherever it lies
-length-blank : (n : ℕ) (xs : List ℕ) → length (blank n xs) ≡ length xs
-unfolding blank
-length-blank zero xs = refl
-length-blank (suc n) [] = refl
-length-blank (suc n) (x ∷ xs) = ap suc (length-blank n xs)
+  -- no erase and no write changes the length of an area, wherever it lies
+  length-blank : (n : ℕ) (xs : List ℕ) → length (blank c n xs) ≡ length xs
+  unfolding blank
+  length-blank zero xs = refl
+  length-blank (suc n) [] = refl
+  length-blank (suc n) (x ∷ xs) = ap suc (length-blank n xs)
 
-length-program : (xs bs : List ℕ) → length (program xs bs) ≡ length xs
-unfolding program
-length-program [] bs = refl
-length-program (x ∷ xs) [] = refl
-length-program (x ∷ xs) (b ∷ bs) = ap suc (length-program xs bs)
+  length-program : (xs bs : List ℕ) → length (program c xs bs) ≡ length xs
+  unfolding program
+  length-program [] bs = refl
+  length-program (x ∷ xs) [] = refl
+  length-program (x ∷ xs) (b ∷ bs) = ap suc (length-program xs bs)
 
-length-parts : (from : ℕ) (xs ys : List ℕ) → length ys ≡ length (drop from xs) → length (take from xs ++ ys) ≡ length xs
-length-parts from xs ys e =
-    length-append (take from xs) ys ∙ ap (λ (n : ℕ). length (take from xs) + n) e
-    ∙ sym (length-append (take from xs) (drop from xs)) ∙ ap length (take-append-drop from xs)
+  length-parts : (from : ℕ) (xs ys : List ℕ) → length ys ≡ length (drop from xs) → length (take from xs ++ ys) ≡ length xs
+  length-parts from xs ys e =
+      length-append (take from xs) ys ∙ ap (λ (n : ℕ). length (take from xs) + n) e
+      ∙ sym (length-append (take from xs) (drop from xs)) ∙ ap length (take-append-drop from xs)
 
-pub length-erased : (from n : ℕ) (xs : List ℕ) → length (erasedAt from n xs) ≡ length xs
-unfolding erasedAt
-length-erased from n xs = length-parts from xs (blank n (drop from xs)) (length-blank n (drop from xs))
+  pub length-erased : (from n : ℕ) (xs : List ℕ) → length (erasedAt c from n xs) ≡ length xs
+  unfolding erasedAt
+  length-erased from n xs = length-parts from xs (blank c n (drop from xs)) (length-blank n (drop from xs))
 
-pub length-written : (at : ℕ) (bs xs : List ℕ) → length (writtenAt at bs xs) ≡ length xs
-unfolding writtenAt
-length-written at bs xs = length-parts at xs (program (drop at xs) bs) (length-program (drop at xs) bs)
+  pub length-written : (at : ℕ) (bs xs : List ℕ) → length (writtenAt c at bs xs) ≡ length xs
+  unfolding writtenAt
+  length-written at bs xs = length-parts at xs (program c (drop at xs) bs) (length-program (drop at xs) bs)
 
 -- ---- a stretch of n bytes from `at` on may differ, and nothing else
 
@@ -153,45 +156,46 @@ beside-splice {at} {n} {xs} {ys} p mid lo hi fit b =
       size = simp (length-append, length-drop) (omega arith);
     }
 
-pub beside-erased : {at n : ℕ} {xs ys : List ℕ} (p m : ℕ) → at ≤ p → p + m ≤ at + n → at + n ≤ length xs → Beside at n xs ys
-    → Beside at n xs (erasedAt p m ys)
-unfolding splice
-beside-erased {at} {n} {xs} {ys} p m lo hi fit b =
-    let s : length ys ≡ length xs = b .size in
-    let l : length (replicate m erased) ≡ m = length-replicate m erased in
-    subst (λ (zs : List ℕ). Beside at n xs zs)
-    (ap (λ (k : ℕ). take p ys ++ (replicate m erased ++ drop (p + k) ys)) l ∙ sym (erased-within p m ys (omega arith)))
-    (beside-splice p (replicate m erased) lo (omega arith) fit b)
+module _ (c : Cell) where
+  pub beside-erased : {at n : ℕ} {xs ys : List ℕ} (p m : ℕ) → at ≤ p → p + m ≤ at + n → at + n ≤ length xs → Beside at n xs ys
+      → Beside at n xs (erasedAt c p m ys)
+  unfolding splice
+  beside-erased {at} {n} {xs} {ys} p m lo hi fit b =
+      let s : length ys ≡ length xs = b .size in
+      let l : length (replicate m (erased c)) ≡ m = length-replicate m (erased c) in
+      subst (λ (zs : List ℕ). Beside at n xs zs)
+      (ap (λ (k : ℕ). take p ys ++ (replicate m (erased c) ++ drop (p + k) ys)) l ∙ sym (erased-within c p m ys (omega arith)))
+      (beside-splice p (replicate m (erased c)) lo (omega arith) fit b)
 
-pub beside-written : {at n : ℕ} {xs ys : List ℕ} (p : ℕ) (bs : List ℕ) → at ≤ p → p + length bs ≤ at + n → at + n ≤ length xs → Beside at n xs ys
-    → Beside at n xs (writtenAt p bs ys)
-unfolding splice writtenAt
-beside-written {at} {n} {xs} {ys} p bs lo hi fit b =
-    let s : length ys ≡ length xs = b .size in
-    let mid : List ℕ = program (take (length bs) (drop p ys)) bs in
-    let l : length mid ≡ length bs =
-    length-program (take (length bs) (drop p ys)) bs
-    ∙ length-take-le (length bs) (drop p ys) (simp length-drop (omega arith)) in
-    subst (λ (zs : List ℕ). Beside at n xs zs)
-    (ap (λ (k : ℕ). take p ys ++ (mid ++ drop (p + k) ys)) l
-    ∙ ap (λ (r : List ℕ). take p ys ++ r)
-    (ap (λ (r : List ℕ). mid ++ r) (sym (drop-drop (length bs) p ys)) ∙ sym (program-split (drop p ys) bs)))
-    (beside-splice p mid lo (omega arith) fit b)
+  pub beside-written : {at n : ℕ} {xs ys : List ℕ} (p : ℕ) (bs : List ℕ) → at ≤ p → p + length bs ≤ at + n → at + n ≤ length xs → Beside at n xs ys
+      → Beside at n xs (writtenAt c p bs ys)
+  unfolding splice writtenAt
+  beside-written {at} {n} {xs} {ys} p bs lo hi fit b =
+      let s : length ys ≡ length xs = b .size in
+      let mid : List ℕ = program c (take (length bs) (drop p ys)) bs in
+      let l : length mid ≡ length bs =
+      length-program c (take (length bs) (drop p ys)) bs
+      ∙ length-take-le (length bs) (drop p ys) (simp length-drop (omega arith)) in
+      subst (λ (zs : List ℕ). Beside at n xs zs)
+      (ap (λ (k : ℕ). take p ys ++ (mid ++ drop (p + k) ys)) l
+      ∙ ap (λ (r : List ℕ). take p ys ++ r)
+      (ap (λ (r : List ℕ). mid ++ r) (sym (drop-drop (length bs) p ys)) ∙ sym (program-split c (drop p ys) bs)))
+      (beside-splice p mid lo (omega arith) fit b)
 
--- an erase of the whole stretch forgets what it held
-pub erased-beside : {at n : ℕ} {xs ys : List ℕ} → at + n ≤ length xs → Beside at n xs ys → erasedAt at n ys ≡ erasedAt at n xs
-erased-beside {at} {n} {xs} {ys} fit b =
-    let s : length ys ≡ length xs = b .size in
-    erased-within at n ys (omega arith)
-    ∙ ap₂ (λ (l r : List ℕ). l ++ (replicate n erased ++ r)) (b .before) (b .behind)
-    ∙ sym (erased-within at n xs fit)
+  -- an erase of the whole stretch forgets what it held
+  pub erased-beside : {at n : ℕ} {xs ys : List ℕ} → at + n ≤ length xs → Beside at n xs ys → erasedAt c at n ys ≡ erasedAt c at n xs
+  erased-beside {at} {n} {xs} {ys} fit b =
+      let s : length ys ≡ length xs = b .size in
+      erased-within c at n ys (omega arith)
+      ∙ ap₂ (λ (l r : List ℕ). l ++ (replicate n (erased c) ++ r)) (b .before) (b .behind)
+      ∙ sym (erased-within c at n xs fit)
 
--- bytes written onto as many erased ones
-pub written-erased : (before bs behind : List ℕ) (at b : ℕ) → length before ≡ at → length bs ≡ b → Bytes bs
-    → writtenAt at bs (before ++ (replicate b erased ++ behind)) ≡ before ++ (bs ++ behind)
-unfolding writtenAt
-written-erased before bs behind at b e l h =
-    ap₂ (λ (x y : List ℕ). x ++ program y bs) (take-at before (replicate b erased ++ behind) at e)
-    (drop-at before (replicate b erased ++ behind) at e)
-    ∙ ap (λ (k : ℕ). before ++ program (replicate k erased ++ behind) bs) (sym l)
-    ∙ ap (λ (r : List ℕ). before ++ r) (program-erased bs behind h)
+  -- bytes written onto as many erased ones
+  pub written-erased : (before bs behind : List ℕ) (at b : ℕ) → length before ≡ at → length bs ≡ b → Bytes bs
+      → writtenAt c at bs (before ++ (replicate b (erased c) ++ behind)) ≡ before ++ (bs ++ behind)
+  unfolding writtenAt
+  written-erased before bs behind at b e l h =
+      ap₂ (λ (x y : List ℕ). x ++ program c y bs) (take-at before (replicate b (erased c) ++ behind) at e)
+      (drop-at before (replicate b (erased c) ++ behind) at e)
+      ∙ ap (λ (k : ℕ). before ++ program c (replicate k (erased c) ++ behind) bs) (sym l)
+      ∙ ap (λ (r : List ℕ). before ++ r) (program-erased c bs behind h)

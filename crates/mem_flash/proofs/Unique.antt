@@ -20,14 +20,14 @@ end-unique p q = let e = sym p ∙ q in (ap (λ (x : End). x .flash) e, ap (λ (
 pub erase-unique : OneResult erase-kinds.ps erase-kinds.r erase.Post
 unfolding placed change
 erase-unique κs a x y v w p q =
-    let e = end-unique (p active (flash [] [] [])) (q active (flash [] [] [])) in (e .1, ap (λ (f : Flash). (f .active, (tt, (tt, (tt, (tt, tt)))))) (e .0))
+    let e = end-unique (p active (flash [] [] [])) (q active (flash [] [] [])) in (e .1, ap (λ (f : Flash). (f .active, (tt, (tt, (tt, (tt, (tt, tt))))))) (e .0))
 
 pub write-unique : OneResult write-kinds.ps write-kinds.r write.Post
 unfolding placed change
 write-unique κs a x y v w p q =
-    let e = end-unique (p active (flash [] [] [])) (q active (flash [] [] [])) in (e .1, ap (λ (f : Flash). (f .active, (tt, (tt, (tt, tt))))) (e .0))
+    let e = end-unique (p active (flash [] [] [])) (q active (flash [] [] [])) in (e .1, ap (λ (f : Flash). (f .active, (tt, (tt, (tt, (tt, tt)))))) (e .0))
 
 pub write-word-unique : OneResult write-word-kinds.ps write-word-kinds.r write-word.Post
 unfolding placed change
 write-word-unique κs a x y v w p q =
-    let e = end-unique (p active (flash [] [] [])) (q active (flash [] [] [])) in (e .1, ap (λ (f : Flash). (f .active, (tt, (tt, (tt, (tt, tt)))))) (e .0))
+    let e = end-unique (p active (flash [] [] [])) (q active (flash [] [] [])) in (e .1, ap (λ (f : Flash). (f .active, (tt, (tt, (tt, (tt, (tt, tt))))))) (e .0))

@@ -1,9 +1,10 @@
--- Document 01, "The flash we model": areas, operations and what they do. Assumes nothing.
+-- Document 01, "The flash we model": areas, operations and what they do. An operation says of which cells its area is made, so that
+-- whoever speaks of operations only does not (02, No. 11). Assumes nothing.
 use mathlib.Core.List.{List, [], _∷_, _++_}
 use Prim.Native.Nat.{ℕ, zero, suc, _+_, _/_}
-use lib.Bits.{bitAnd}
 use lib.ListN.{take, drop}
-use Rattle.state.specs.Magic.{erased}
+use Rattle.state.specs.declared.Cell.{Cell}
+use Rattle.state.specs.Cells.{erased, programmed}
 
 -- the three areas, each a list of bytes
 pub data Area : Type 0 where
@@ -18,31 +19,27 @@ pub record Flash : Type 0 where
 
 -- an operation: an erase of so many bytes from an offset on, or a write of bytes at an offset
 pub data Op : Type 0 where
-  erase : Area → ℕ → ℕ → Op
-  write : Area → ℕ → List ℕ → Op
-
--- what a write leaves of a byte: old AND new
-unfoldable pub programmed : ℕ → ℕ → ℕ
-programmed old new = bitAnd old new
+  erase : Cell → Area → ℕ → ℕ → Op
+  write : Cell → Area → ℕ → List ℕ → Op
 
 -- the first n bytes erased; bytes that an area does not have are passed over
-unfoldable pub blank : ℕ → List ℕ → List ℕ
-blank zero xs = xs
-blank (suc n) [] = []
-blank (suc n) (x ∷ xs) = erased ∷ blank n xs
+unfoldable pub blank : Cell → ℕ → List ℕ → List ℕ
+blank c zero xs = xs
+blank c (suc n) [] = []
+blank c (suc n) (x ∷ xs) = erased c ∷ blank c n xs
 
 -- bytes written over those of an area from its first on
-unfoldable pub program : List ℕ → List ℕ → List ℕ
-program [] ys = []
-program (x ∷ xs) [] = x ∷ xs
-program (x ∷ xs) (y ∷ ys) = programmed x y ∷ program xs ys
+unfoldable pub program : Cell → List ℕ → List ℕ → List ℕ
+program c [] ys = []
+program c (x ∷ xs) [] = x ∷ xs
+program c (x ∷ xs) (y ∷ ys) = programmed c x y ∷ program c xs ys
 
 -- an area after an erase, and after a write
-unfoldable pub erasedAt : ℕ → ℕ → List ℕ → List ℕ
-erasedAt from n xs = take from xs ++ blank n (drop from xs)
+unfoldable pub erasedAt : Cell → ℕ → ℕ → List ℕ → List ℕ
+erasedAt c from n xs = take from xs ++ blank c n (drop from xs)
 
-unfoldable pub writtenAt : ℕ → List ℕ → List ℕ → List ℕ
-writtenAt at bs xs = take at xs ++ program (drop at xs) bs
+unfoldable pub writtenAt : Cell → ℕ → List ℕ → List ℕ → List ℕ
+writtenAt c at bs xs = take at xs ++ program c (drop at xs) bs
 
 -- one area of the flash changed
 unfoldable pub change : Area → (List ℕ → List ℕ) → Flash → Flash
@@ -59,8 +56,8 @@ count k = k
 
 -- the flash after one operation, after a list of them, and after a run of a list that is handed k
 unfoldable pub apply : Op → Flash → Flash
-apply (erase a from n) f = change a (erasedAt from n) f
-apply (write a at bs) f = change a (writtenAt at bs) f
+apply (erase c a from n) f = change a (erasedAt c from n) f
+apply (write c a at bs) f = change a (writtenAt c at bs) f
 
 unfoldable pub applyAll : List Op → Flash → Flash
 applyAll [] f = f
@@ -70,10 +67,10 @@ unfoldable pub after : Supply → List Op → Flash → Flash
 after k os f = applyAll (take (count k) os) f
 
 -- so many erase units of an area from an offset on, in rising order: each is one operation
-unfoldable pub unitOps : ℕ → ℕ → Area → ℕ → List Op
-unitOps zero unit a from = []
-unitOps (suc n) unit a from = erase a from unit ∷ unitOps n unit a (from + unit)
+unfoldable pub unitOps : Cell → ℕ → ℕ → Area → ℕ → List Op
+unitOps c zero unit a from = []
+unitOps c (suc n) unit a from = erase c a from unit ∷ unitOps c n unit a (from + unit)
 
 -- an erase of n bytes of an area whose erase units have `unit` bytes
-unfoldable pub eraseOps : ℕ → Area → ℕ → ℕ → List Op
-eraseOps unit a from n = unitOps (n / unit) unit a from
+unfoldable pub eraseOps : Cell → ℕ → Area → ℕ → ℕ → List Op
+eraseOps c unit a from n = unitOps c (n / unit) unit a from

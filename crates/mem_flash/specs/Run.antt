@@ -5,6 +5,7 @@ use mathlib.Core.List.{List, [], _∷_}
 use Prim.Native.Nat.{ℕ, zero, suc, _-_}
 use lib.Dec.{leb}
 use lib.ListN.{length}
+use Rattle.state.specs.declared.Cell.{Cell}
 use Rattle.state.specs.Choice.{pick}
 use Rattle.mem_flash.specs.declared.Flow.{Flow}
 use Rattle.mem_flash.specs.declared.Flow.the-variants.{On, Cut}
@@ -50,8 +51,8 @@ abbrev pub InArea : Supply → (Area → List Op) → List ℕ → List ℕ → 
 InArea k os xs xs′ r = (a : Area) (f : Flash) → run k (os a) (placed a xs f) ≡ ended (placed a xs′ f) r
 
 -- an erase of one unit, and a write, as lists of operations with their area last
-abbrev pub unitOp : ℕ → ℕ → Area → List Op
-unitOp at n a = erase a at n ∷ []
+abbrev pub unitOp : Cell → ℕ → ℕ → Area → List Op
+unitOp c at n a = erase c a at n ∷ []
 
-abbrev pub writeOps : ℕ → List ℕ → Area → List Op
-writeOps at bs a = write a at bs ∷ []
+abbrev pub writeOps : Cell → ℕ → List ℕ → Area → List Op
+writeOps c at bs a = write c a at bs ∷ []

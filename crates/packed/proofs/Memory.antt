@@ -10,8 +10,10 @@ use native.Mathlib.Omega.{arith}
 use lib.Dec.{eqb}
 use lib.ListN.{length, take, drop, length-drop, drop-of-length-le}
 use borrow.Author.Tests.{ne-eqb, eqb-true}
+use Rattle.state.specs.declared.Cell.{Cell}
 use Rattle.state.specs.Choice.{pick}
 use Rattle.geometry.specs.declared.Sizes.{Sizes}
+use Rattle.geometry.specs.Geometry.{cell}
 use Rattle.geometry.specs.Refusals.{mostLength}
 use Rattle.geometry.proofs.Rows.{updater-admits}
 use Rattle.mem_flash.specs.Flash.{Area, Flash, Op, erase, write}
@@ -36,8 +38,8 @@ then (other h) (other k) = other k
 -- the erases of a list start at l or before
 data Erases (l : ℕ) : List Op → Type 0 where
   none : Erases l []
-  erased : {a : Area} {from n : ℕ} {os : List Op} → from ≤ l → Erases l os → Erases l (erase a from n ∷ os)
-  written : {a : Area} {at : ℕ} {bs : List ℕ} {os : List Op} → Erases l os → Erases l (write a at bs ∷ os)
+  erased : {c : Cell} {a : Area} {from n : ℕ} {os : List Op} → from ≤ l → Erases l os → Erases l (erase c a from n ∷ os)
+  written : {c : Cell} {a : Area} {at : ℕ} {bs : List ℕ} {os : List Op} → Erases l os → Erases l (write c a at bs ∷ os)
 
 remembers-one : {l : ℕ} {os : List Op} (k ed : ℕ) (m : Sector) → Erases l os → Remembers l m (remembered ed (take k os) m)
 unfolding remembered rememberedOp
@@ -84,13 +86,13 @@ erases-pick false none y = y
 erases-pick false (erased h x) y = erased h (erases-pick false x y)
 erases-pick false (written x) y = written (erases-pick false x y)
 
-erases : {l : ℕ} {ps : List Piece} (ed : ℕ) (m : Sector) → Starts l ps → Erases l (piecesOps ed m ps)
+erases : {l : ℕ} {ps : List Piece} (c : Cell) (ed : ℕ) (m : Sector) → Starts l ps → Erases l (piecesOps c ed m ps)
 unfolding piecesOps
-erases ed m none = none
-erases ed m (one {p} h s) =
+erases c ed m none = none
+erases c ed m (one {p} h s) =
     erases-pick (remembers m (p .at / ed))
     (erased (let d = div-add-mod' (p .at) ed in omega arith) none)
-    (written (erases ed (At (p .at / ed)) s))
+    (written (erases c ed (At (p .at / ed)) s))
 
 module _ (k : ℕ) (z : Sizes) (m : Sector) (offset : ℕ) (bytes : List ℕ) (f : Flash) where
   -- data that is not empty lies in DFU, and DFU is no longer than the longest area
@@ -108,11 +110,11 @@ module _ (k : ℕ) (z : Sizes) (m : Sector) (offset : ℕ) (bytes : List ℕ) (f
   memory-one = go _ refl
     where
       go : (b : Bool) → eqb (writeFirmware z m offset bytes f .refusal) 0 ≡ b
-          → Remembers mostLength m (pick b (remembered (z .ed) (take k (piecesOps (z .ed) m (pieces (z .ed) offset bytes))) m) m)
+          → Remembers mostLength m (pick b (remembered (z .ed) (take k (piecesOps (cell (z .state)) (z .ed) m (pieces (z .ed) offset bytes))) m) m)
       go true e =
           let a = updater-admits z (length (f .dfu)) (length (f .state)) _ _ (eqb-true _ _ e) in
           remembers-one k (z .ed) m
-          (erases (z .ed) m (starts-in bytes (range-in (z .wd) (length (f .dfu)) offset (length bytes) (a .1)) (a .0 .dfu-most)))
+          (erases (cell (z .state)) (z .ed) m (starts-in bytes (range-in (z .wd) (length (f .dfu)) offset (length bytes) (a .1)) (a .0 .dfu-most)))
       go false e = same
 
 -- ---- in 32 bits

@@ -12,14 +12,14 @@ use Rattle.rules.specs.FirmwareUpdater.{readDfu, readOut, writeFirmware, memory
 use Rattle.packed.specs.Packed.{packed, sectorOf, lastNumber}
 
 -- the sizes, which C hands over as numbers in a row
-abbrev pub stateSizes : ℕ → ℕ → StateSizes
-stateSizes es ws = record { es = es; ws = ws }
+abbrev pub stateSizes : ℕ → ℕ → ℕ → StateSizes
+stateSizes es ws ev = record { es = es; ws = ws; ev = ev }
 
-abbrev pub geometry : ℕ → ℕ → ℕ → ℕ → ℕ → ℕ → ℕ → Geometry
-geometry ea wa ed wd es ws b = record { ea = ea; wa = wa; ed = ed; wd = wd; state = stateSizes es ws; b = b }
+abbrev pub geometry : ℕ → ℕ → ℕ → ℕ → ℕ → ℕ → ℕ → ℕ → Geometry
+geometry ea wa ed wd es ws b ev = record { ea = ea; wa = wa; ed = ed; wd = wd; state = stateSizes es ws ev; b = b }
 
-abbrev pub sizes : ℕ → ℕ → ℕ → ℕ → Sizes
-sizes ed wd es ws = record { ed = ed; wd = wd; state = stateSizes es ws }
+abbrev pub sizes : ℕ → ℕ → ℕ → ℕ → ℕ → Sizes
+sizes ed wd es ws ev = record { ed = ed; wd = wd; state = stateSizes es ws ev }
 
 -- the number r and the flash f′ are those of the call c on the flash f with a budget of k
 pub record Told (c : Call) (k : ℕ) (f f′ : Flash) (r : ℕ) : Type 0 where

@@ -7,13 +7,14 @@ use mathlib.Core.List.{List, [], _∷_, _++_}
 use Prim.Native.Nat.{ℕ, zero, suc, _+_, _*_, _/_}
 use lib.ListN.{length, take, drop, length-take, length-drop}
 use lib.Dec.{eqb, leb, ltb}
+use Rattle.state.specs.declared.Cell.{Cell}
 use Rattle.state.specs.declared.State.{State}
 use Rattle.state.specs.declared.State.the-variants.{Boot, Swap, Revert, DfuDetach}
 use Rattle.state.specs.Choice.{pick}
 use Rattle.state.specs.Magic.{magic}
 use Rattle.geometry.specs.declared.Geometry.{Geometry}
 use Rattle.geometry.specs.declared.Sizes.{Sizes}
-use Rattle.geometry.specs.Geometry.{page, pages}
+use Rattle.geometry.specs.Geometry.{cell, page, pages}
 use Rattle.geometry.specs.Refusals.{bootRefusal, updaterRefusal}
 use Rattle.mem_flash.specs.Flash.{Area, active, dfu, state, Flash, Op, erase, write, erasedAt, writtenAt, change, apply, applyAll, after, eraseOps}
 use Rattle.mem_flash.proofs.Stretches.{length-erased, length-written}
@@ -37,9 +38,9 @@ Like state xs ys = xs ≡ ys
 -- the same operations, but for the bytes written to an image
 data AlikeOps : List Op → List Op → Type 0 where
   nothing : AlikeOps [] []
-  erases : {a : Area} {at n : ℕ} {os ps : List Op} → AlikeOps os ps → AlikeOps (erase a at n ∷ os) (erase a at n ∷ ps)
-  writes : {a : Area} {at : ℕ} {xs ys : List ℕ} {os ps : List Op} → Like a xs ys → AlikeOps os ps
-      → AlikeOps (write a at xs ∷ os) (write a at ys ∷ ps)
+  erases : {c : Cell} {a : Area} {at n : ℕ} {os ps : List Op} → AlikeOps os ps → AlikeOps (erase c a at n ∷ os) (erase c a at n ∷ ps)
+  writes : {c : Cell} {a : Area} {at : ℕ} {xs ys : List ℕ} {os ps : List Op} → Like a xs ys → AlikeOps os ps
+      → AlikeOps (write c a at xs ∷ os) (write c a at ys ∷ ps)
 
 like-refl : (a : Area) (xs : List ℕ) → Like a xs xs
 like-refl active xs = refl
@@ -48,8 +49,8 @@ like-refl state xs = refl
 
 same : (os : List Op) → AlikeOps os os
 same [] = nothing
-same (erase a at n ∷ os) = erases (same os)
-same (write a at bs ∷ os) = writes (like-refl a bs) (same os)
+same (erase c a at n ∷ os) = erases (same os)
+same (write c a at bs ∷ os) = writes (like-refl a bs) (same os)
 
 like-part : (a : Area) (b from : ℕ) (xs ys : List ℕ) → Like a xs ys → Like a (take b (drop from xs)) (take b (drop from ys))
 like-part active b from xs ys e = simp (length-take, length-drop, e)
@@ -58,50 +59,50 @@ like-part state b from xs ys e = ap (λ (l : List ℕ). take b (drop from l)) e
 
 -- ---- what they leave is alike
 
-apply-erase : (a : Area) (at n : ℕ) (f h : Flash) → Alike f h → Alike (apply (erase a at n) f) (apply (erase a at n) h)
+apply-erase : (c : Cell) (a : Area) (at n : ℕ) (f h : Flash) → Alike f h → Alike (apply (erase c a at n) f) (apply (erase c a at n) h)
 unfolding apply change
-apply-erase active at n f h e =
+apply-erase c active at n f h e =
     record {
-      active = length-erased at n (f .active) ∙ e .active
-          ∙ sym (length-erased at n (h .active));
+      active = length-erased c at n (f .active) ∙ e .active
+          ∙ sym (length-erased c at n (h .active));
       dfu = e .dfu;
       state = e .state;
     }
-apply-erase dfu at n f h e =
+apply-erase c dfu at n f h e =
     record {
       active = e .active;
-      dfu = length-erased at n (f .dfu) ∙ e .dfu
-          ∙ sym (length-erased at n (h .dfu));
+      dfu = length-erased c at n (f .dfu) ∙ e .dfu
+          ∙ sym (length-erased c at n (h .dfu));
       state = e .state;
     }
-apply-erase state at n f h e = record { active = e .active; dfu = e .dfu; state = ap (erasedAt at n) (e .state) }
+apply-erase c state at n f h e = record { active = e .active; dfu = e .dfu; state = ap (erasedAt c at n) (e .state) }
 
-apply-write : (a : Area) (at : ℕ) (xs ys : List ℕ) (f h : Flash) → Like a xs ys → Alike f h
-    → Alike (apply (write a at xs) f) (apply (write a at ys) h)
+apply-write : (c : Cell) (a : Area) (at : ℕ) (xs ys : List ℕ) (f h : Flash) → Like a xs ys → Alike f h
+    → Alike (apply (write c a at xs) f) (apply (write c a at ys) h)
 unfolding apply change
-apply-write active at xs ys f h l e =
+apply-write c active at xs ys f h l e =
     record {
-      active = length-written at xs (f .active) ∙ e .active
-          ∙ sym (length-written at ys (h .active));
+      active = length-written c at xs (f .active) ∙ e .active
+          ∙ sym (length-written c at ys (h .active));
       dfu = e .dfu;
       state = e .state;
     }
-apply-write dfu at xs ys f h l e =
+apply-write c dfu at xs ys f h l e =
     record {
       active = e .active;
-      dfu = length-written at xs (f .dfu) ∙ e .dfu
-          ∙ sym (length-written at ys (h .dfu));
+      dfu = length-written c at xs (f .dfu) ∙ e .dfu
+          ∙ sym (length-written c at ys (h .dfu));
       state = e .state;
     }
-apply-write state at xs ys f h l e = record { active = e .active; dfu = e .dfu; state = ap₂ (writtenAt at) l (e .state) }
+apply-write c state at xs ys f h l e = record { active = e .active; dfu = e .dfu; state = ap₂ (writtenAt c at) l (e .state) }
 
 alike-all : {os ps : List Op} → AlikeOps os ps → (f h : Flash) → Alike f h → Alike (applyAll os f) (applyAll ps h)
 unfolding applyAll
 alike-all nothing f h e = e
-alike-all (erases {a = a} {at = at} {n = n} r) f h e =
-    alike-all r (apply (erase a at n) f) (apply (erase a at n) h) (apply-erase a at n f h e)
-alike-all (writes {a = a} {at = at} {xs = xs} {ys = ys} l r) f h e =
-    alike-all r (apply (write a at xs) f) (apply (write a at ys) h) (apply-write a at xs ys f h l e)
+alike-all (erases {c = c} {a = a} {at = at} {n = n} r) f h e =
+    alike-all r (apply (erase c a at n) f) (apply (erase c a at n) h) (apply-erase c a at n f h e)
+alike-all (writes {c = c} {a = a} {at = at} {xs = xs} {ys = ys} l r) f h e =
+    alike-all r (apply (write c a at xs) f) (apply (write c a at ys) h) (apply-write c a at xs ys f h l e)
 
 alike-count : {os ps : List Op} → AlikeOps os ps → length os ≡ length ps
 alike-count nothing = refl
@@ -112,12 +113,12 @@ alike-count (writes l r) = ap suc (alike-count r)
 alike-after : (k : ℕ) {os ps : List Op} → AlikeOps os ps → (f h : Flash) → Alike f h → Alike (after k os f) (after k ps h)
 alike-after zero {os} {ps} r f h e = subst₂ Alike (sym (after-first os f)) (sym (after-first ps h)) e
 alike-after (suc k) nothing f h e = subst₂ Alike (sym (after-none (suc k) f)) (sym (after-none (suc k) h)) e
-alike-after (suc k) (erases {a = a} {at = at} {n = n} {os = os} {ps = ps} r) f h e =
-    subst₂ Alike (sym (after-next k (erase a at n) os f)) (sym (after-next k (erase a at n) ps h))
-    (alike-after k r (apply (erase a at n) f) (apply (erase a at n) h) (apply-erase a at n f h e))
-alike-after (suc k) (writes {a = a} {at = at} {xs = xs} {ys = ys} {os = os} {ps = ps} l r) f h e =
-    subst₂ Alike (sym (after-next k (write a at xs) os f)) (sym (after-next k (write a at ys) ps h))
-    (alike-after k r (apply (write a at xs) f) (apply (write a at ys) h) (apply-write a at xs ys f h l e))
+alike-after (suc k) (erases {c = c} {a = a} {at = at} {n = n} {os = os} {ps = ps} r) f h e =
+    subst₂ Alike (sym (after-next k (erase c a at n) os f)) (sym (after-next k (erase c a at n) ps h))
+    (alike-after k r (apply (erase c a at n) f) (apply (erase c a at n) h) (apply-erase c a at n f h e))
+alike-after (suc k) (writes {c = c} {a = a} {at = at} {xs = xs} {ys = ys} {os = os} {ps = ps} l r) f h e =
+    subst₂ Alike (sym (after-next k (write c a at xs) os f)) (sym (after-next k (write c a at ys) ps h))
+    (alike-after k r (apply (write c a at xs) f) (apply (write c a at ys) h) (apply-write c a at xs ys f h l e))
 
 alike-append : {os ps : List Op} → AlikeOps os ps → (us vs : List Op) → AlikeOps us vs → AlikeOps (os ++ us) (ps ++ vs)
 alike-append nothing us vs s = s
@@ -131,11 +132,11 @@ alike-pick false r s = s
 
 -- ---- the operations of a boot
 
-alike-chunks : (n : ℕ) (a : Area) (at from b : ℕ) (xs ys : List ℕ) → Like a xs ys
-    → AlikeOps (chunkOps n a at from b xs) (chunkOps n a at from b ys)
+alike-chunks : (c : Cell) (n : ℕ) (a : Area) (at from b : ℕ) (xs ys : List ℕ) → Like a xs ys
+    → AlikeOps (chunkOps c n a at from b xs) (chunkOps c n a at from b ys)
 unfolding chunkOps
-alike-chunks zero a at from b xs ys l = nothing
-alike-chunks (suc n) a at from b xs ys l = writes (like-part a b from xs ys l) (alike-chunks n a (at + b) (from + b) b xs ys l)
+alike-chunks c zero a at from b xs ys l = nothing
+alike-chunks c (suc n) a at from b xs ys l = writes (like-part a b from xs ys l) (alike-chunks c n a (at + b) (from + b) b xs ys l)
 
 like-source : (a : Area) (f h : Flash) → Alike f h → Like a (sourceOf a f) (sourceOf a h)
 unfolding sourceOf
@@ -148,8 +149,8 @@ module _ (g : Geometry) where
   unfolding copyOps fillOps
   alike-copy c f h e =
       alike-append
-      (alike-append (same (eraseOps (unitOf g (c .to)) (c .to) (c .target * page g) (page g))) _ _
-      (alike-chunks (page g / g .b) (c .to) (c .target * page g) (c .source * page g) (g .b) (sourceOf (c .to) f)
+      (alike-append (same (eraseOps (cell (g .state)) (unitOf g (c .to)) (c .to) (c .target * page g) (page g))) _ _
+      (alike-chunks (cell (g .state)) (page g / g .b) (c .to) (c .target * page g) (c .source * page g) (g .b) (sourceOf (c .to) f)
       (sourceOf (c .to) h)
       (like-source (c .to) f h e)))
       _ _ (same (markOp (g .state) (c .mark) ∷ []))
@@ -298,13 +299,13 @@ module _ (f h : Flash) (e : Alike f h) where
         write-firmware = λ z m offset bytes.
             of-updater
             (looking z (λ _ st. pending (z .state) st) (λ ld _. badRange (z .wd) ld offset (length bytes)) (λ _. none)
-            (λ _ _. piecesOps (z .ed) m (pieces (z .ed) offset bytes)));
+            (λ _ _. piecesOps (cell (z .state)) (z .ed) m (pieces (z .ed) offset bytes)));
         prepare-update = λ z.
-            of-updater (looking z (λ _ st. pending (z .state) st) (λ _ _. false) (λ _. none) (λ ld _. eraseOps (z .ed) dfu 0 ld));
+            of-updater (looking z (λ _ st. pending (z .state) st) (λ _ _. false) (λ _. none) (λ ld _. eraseOps (cell (z .state)) (z .ed) dfu 0 ld));
         remembers = λ k z m offset bytes. λ i.
             pick
             (eqb (updaterRefusal z (e .dfu i) (length (e .state i)) (pending (z .state) (e .state i))
             (badRange (z .wd) (e .dfu i) offset (length bytes))) 0)
-            (remembered (z .ed) (take k (piecesOps (z .ed) m (pieces (z .ed) offset bytes))) m)
+            (remembered (z .ed) (take k (piecesOps (cell (z .state)) (z .ed) m (pieces (z .ed) offset bytes))) m)
             m;
       }

@@ -11,13 +11,16 @@ use native.Mathlib.Nat.{zero-mul, mul-le-mul-right, lt-of-not-le}
 use native.Mathlib.Decide.{decLe}
 use native.Mathlib.Omega.{arith}
 use lib.ListN.{length, replicate}
+use Rattle.state.specs.declared.Cell.{Cell}
 use Rattle.state.specs.declared.State.{State}
 use Rattle.state.specs.declared.State.the-variants.{Boot, Swap, Revert}
 use Rattle.state.specs.Choice.{pick}
-use Rattle.state.specs.Magic.{erased, marked, magic, throughout}
+use Rattle.state.specs.Cells.{erased, marked}
+use Rattle.state.specs.Magic.{magic, throughout}
+use Rattle.state.proofs.Cells.{erased-byte}
 use Rattle.geometry.specs.declared.StateSizes.{StateSizes}
 use Rattle.geometry.specs.declared.Geometry.{Geometry}
-use Rattle.geometry.specs.Geometry.{words}
+use Rattle.geometry.specs.Geometry.{cell, words}
 use Rattle.mem_flash.specs.Flash.{Flash, Op, blank, writtenAt, applyAll, after}
 use Rattle.mem_flash.proofs.After.{after-all, after-none}
 use Rattle.rules.specs.StateArea.{word, readState, valid, marksDone, invalidateOp}
@@ -48,6 +51,9 @@ module _ (g : Geometry) (f : Flash) (s : Swapped g f) where
   abbrev S : ℕ
   S = length (f .state)
 
+  abbrev cells : Cell
+  cells = cell (g .state)
+
   abbrev t : ℕ
   t = words (g .state .ws) S - 2
 
@@ -64,17 +70,17 @@ module _ (g : Geometry) (f : Flash) (s : Swapped g f) where
   room : 0 < t - 2 * N
   room = omega (arith, z .room)
 
-  void-is : spread (g .state .ws) (markWords marked (2 * N) (t - 2 * N)) ≡ st₀
+  void-is : spread (g .state .ws) (markWords cells (marked cells) (2 * N) (t - 2 * N)) ≡ st₀
   void-is = void-marks (g .state) (2 * N) t (omega (arith, z .room)) ∙ ap (voidMarks (g .state) (2 * N)) (sym (z .state))
 
-  swapped-is : f .state ≡ spread (g .state .ws) (markWords erased (2 * N) (t - 2 * N))
+  swapped-is : f .state ≡ spread (g .state .ws) (markWords cells (erased cells) (2 * N) (t - 2 * N))
   swapped-is =
       s .state ∙ ap (swapMarks (g .state) N) (z .state) ∙ sym (swapped-marks (g .state) N t (omega (arith, z .room)))
 
   void-size : length st₀ ≡ S
   void-size =
-      let e : length (markWords marked (2 * N) (t - 2 * N)) ≡ 2 + t = omega (arith, z .room, length-marks marked (2 * N) (t - 2 * N)) in
-      ap length (sym void-is) ∙ length-spread (g .state .ws) (markWords marked (2 * N) (t - 2 * N)) ∙ ap (λ (i : ℕ). i * g .state .ws) e
+      let e : length (markWords cells (marked cells) (2 * N) (t - 2 * N)) ≡ 2 + t = omega (arith, z .room, length-marks cells (marked cells) (2 * N) (t - 2 * N)) in
+      ap length (sym void-is) ∙ length-spread (g .state .ws) (markWords cells (marked cells) (2 * N) (t - 2 * N)) ∙ ap (λ (i : ℕ). i * g .state .ws) e
       ∙ sym (z .state)
 
   -- ---- no unit is erased yet
@@ -84,19 +90,19 @@ module _ (g : Geometry) (f : Flash) (s : Swapped g f) where
 
   part-none : confirmedPart g 0 f ≡ begun
   unfolding confirmedPart closed blank
-  part-none = ap (λ (n : ℕ). closed (f .active) (f .dfu) (blank n st₀)) (zero-mul (g .state .es))
+  part-none = ap (λ (n : ℕ). closed (f .active) (f .dfu) (blank cells n st₀)) (zero-mul (g .state .es))
 
   begun-reads : readState (g .state) (begun .state) ≡ Swap
   unfolding closed
-  begun-reads = ap (readState (g .state)) (sym void-is) ∙ reads-swap (g .state) (z .ws) marked (2 * N) (t - 2 * N) room
+  begun-reads = ap (readState (g .state)) (sym void-is) ∙ reads-swap (g .state) (z .ws) (marked cells) (2 * N) (t - 2 * N) room
 
   begun-pending : confirming (g .state) (pageCount g begun) (begun .state) ≡ true
   unfolding closed pageCount
   begun-pending =
-      let d : marksDone (g .state) (spread (g .state .ws) (markWords marked (2 * N) (t - 2 * N))) ≡ 2 * N =
-      done-marks (g .state) (z .ws) marked (2 * N) (t - 2 * N) room in
+      let d : marksDone (g .state) (spread (g .state .ws) (markWords cells (marked cells) (2 * N) (t - 2 * N))) ≡ 2 * N =
+      done-marks (g .state) (z .ws) (marked cells) (2 * N) (t - 2 * N) room in
       subst (λ (st : List ℕ). confirming (g .state) N st ≡ true) void-is
-      (confirming-swapped (g .state) N (spread (g .state .ws) (markWords marked (2 * N) (t - 2 * N)))
+      (confirming-swapped (g .state) N (spread (g .state .ws) (markWords cells (marked cells) (2 * N) (t - 2 * N)))
       (marks-void (g .state) (z .ws) (2 * N) (t - 2 * N) room) (omega (arith, d)) (omega (arith, d, s .some-page)))
 
   begun-wants : bootOps g begun ≡ renewOps (g .state) S (magic Boot)
@@ -269,12 +275,13 @@ module _ (g : Geometry) (f : Flash) (s : Swapped g f) where
   mark-wants =
       ap₂ (λ (a b : Bool). pick a [] (pick b (invalidateOp (g .state) ∷ []) [] ++ renewOps (g .state) S (magic Boot)))
       (ap (λ (st : List ℕ). throughout (magic Boot) (word (g .state) 0 st)) swapped-is
-      ∙ not-booted (g .state) (z .ws) erased (2 * N) (t - 2 * N) room)
+      ∙ not-booted (g .state) (z .ws) (erased cells) (2 * N) (t - 2 * N) room)
       (ap (valid (g .state)) swapped-is ∙ marks-valid (g .state) (z .ws) (2 * N) (t - 2 * N) room)
 
-  invalid-is : writtenAt (g .state .ws) (replicate (g .state .ws) marked) (f .state) ≡ st₀
+  invalid-is : writtenAt cells (g .state .ws) (replicate (g .state .ws) (marked cells)) (f .state) ≡ st₀
   invalid-is =
-      ap (writtenAt (g .state .ws) (replicate (g .state .ws) marked)) swapped-is ∙ void-written (g .state .ws) erased (2 * N) (t - 2 * N) ∙ void-is
+      ap (writtenAt cells (g .state .ws) (replicate (g .state .ws) (marked cells))) swapped-is
+      ∙ void-written cells (g .state .ws) (erased cells) (2 * N) (t - 2 * N) (erased-byte cells) ∙ void-is
 
   module _ (c : Call) (table : c .refusal < 7) (ops : c .ops ≡ setMagicOps (g .state) (magic Boot) (f .state)) where
     confirm-cut : (k : ℕ) → CutConfirmation c k → Erased (left c k f) (k - 1)
@@ -293,7 +300,7 @@ module _ (g : Geometry) (f : Flash) (s : Swapped g f) where
               ∙ ap₂ (λ (i : ℕ) (os : List Op). after i os f) e (ops ∙ mark-wants)
               ∙ void-first (f .active) (f .dfu) (g .state) S (magic Boot) (k - 1) (f .state)
               ∙ renew-part (f .active) (f .dfu) (g .state) S (magic Boot) (k - 1) _ most
-              ∙ ap (λ (st : List ℕ). closed (f .active) (f .dfu) (blank ((k - 1) * g .state .es) st)) invalid-is;
+              ∙ ap (λ (st : List ℕ). closed (f .active) (f .dfu) (blank cells ((k - 1) * g .state .es) st)) invalid-is;
           admits = subst (Admits g) (sym leaves) (admits-after g k f (s .admitted) (c .ops));
         }
 

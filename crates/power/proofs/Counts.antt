@@ -10,6 +10,7 @@ use native.Mathlib.Omega.{arith}
 use lib.Dec.{eqb, lit<}
 use lib.ListN.{length, drop, length-append}
 use borrow.Author.Tests.{ltb-false, eqb-true}
+use Rattle.state.specs.declared.Cell.{Cell}
 use Rattle.state.specs.declared.State.{State}
 use Rattle.state.specs.declared.State.the-variants.{Boot, Swap, Revert, DfuDetach}
 use Rattle.state.specs.Choice.{pick}
@@ -17,7 +18,7 @@ use Rattle.state.specs.Magic.{magic}
 use Rattle.geometry.specs.declared.StateSizes.{StateSizes}
 use Rattle.geometry.specs.declared.Geometry.{Geometry}
 use Rattle.geometry.specs.declared.Sizes.{Sizes}
-use Rattle.geometry.specs.Geometry.{page, pages}
+use Rattle.geometry.specs.Geometry.{cell, page, pages}
 use Rattle.geometry.specs.Refusals.{any, mostLength, uneven, outside, stateRefusal, stateNumbers, updaterNumbers, updaterRows, updaterRefusal}
 use Rattle.geometry.proofs.Rows.{admitted, updater-admits}
 use Rattle.geometry.proofs.Tests.{any-none, row-none, length-in, even-times}
@@ -142,7 +143,8 @@ unfolding stateRefusal outside stateNumbers
 state-most z ls r =
     let a = any-none _ _ (row-none _ _ _ r .0) in
     let b = any-none _ _ (a .1) in
-    length-in _ (any-none _ _ (b .1) .0)
+    let v = any-none _ _ (b .1) in
+    length-in _ (any-none _ _ (v .1) .0)
 
 -- what the updater's rows say of the lengths, and of the range
 record Lengths (ld ls : ℕ) (range : Bool) : Type 0 where
@@ -158,7 +160,8 @@ lengths z ld ls swap range r =
     let j = any-none _ _ (i .1) in
     let k = any-none _ _ (j .1) in
     let l = any-none _ _ (k .1) in
-    let m = any-none _ _ (l .1) in
+    let v = any-none _ _ (l .1) in
+    let m = any-none _ _ (v .1) in
     record {
       dfu = length-in _ (m .0);
       state = length-in _ (any-none _ _ (m .1) .0);
@@ -177,16 +180,16 @@ pieces-most zero ed at bytes = zero-le
 pieces-most (suc n) ed at [] = zero-le
 pieces-most (suc n) ed at (b ∷ bs) = omega (arith, pieces-most n ed (at + room ed at) (drop (room ed at) (b ∷ bs)))
 
-writes-most : (ed : ℕ) (m : Sector) (ps : List Piece) → length (piecesOps ed m ps) ≤ 2 * length ps
+writes-most : (c : Cell) (ed : ℕ) (m : Sector) (ps : List Piece) → length (piecesOps c ed m ps) ≤ 2 * length ps
 unfolding piecesOps
-writes-most ed m [] = zero-le
-writes-most ed m (p ∷ ps) =
-    let first : List Op = pick (remembers m (p .at / ed)) [] (erase dfu (p .at / ed * ed) ed ∷ []) in
-    let one : length first ≤ 1 = pick-count _ [] (erase dfu (p .at / ed * ed) ed ∷ []) 1 zero-le (omega arith) in
+writes-most c ed m [] = zero-le
+writes-most c ed m (p ∷ ps) =
+    let first : List Op = pick (remembers m (p .at / ed)) [] (erase c dfu (p .at / ed * ed) ed ∷ []) in
+    let one : length first ≤ 1 = pick-count _ [] (erase c dfu (p .at / ed * ed) ed ∷ []) 1 zero-le (omega arith) in
     omega (
       arith,
-      length-append first (write dfu (p .at) (p .bytes) ∷ piecesOps ed (At (p .at / ed)) ps),
-      writes-most ed
+      length-append first (write c dfu (p .at) (p .bytes) ∷ piecesOps c ed (At (p .at / ed)) ps),
+      writes-most c ed
           (At (p .at / ed)) ps,
     )
 
@@ -211,7 +214,7 @@ module _ (z : Sizes) (m : Sector) (offset : ℕ) (bytes : List ℕ) (f : Flash) 
       let a = lengths z (length (f .dfu)) (length (f .state)) _ _ r in
       let few : length bytes ≤ mostLength = range-most (z .wd) (length (f .dfu)) offset (length bytes) (a .dfu) (a .inside) in
       omega
-      (arith, writes-most (z .ed) m (pieces (z .ed) offset bytes), pieces-most (length bytes) (z .ed) offset bytes, few)
+      (arith, writes-most (cell (z .state)) (z .ed) m (pieces (z .ed) offset bytes), pieces-most (length bytes) (z .ed) offset bytes, few)
 
 -- ---- prepare_update
 
@@ -220,7 +223,7 @@ unfolding prepareUpdate updaterCall mostInPrepare
 prepare-count z f r =
     omega (
       arith,
-      erase-count (z .ed) dfu 0 (length (f .dfu)),
+      erase-count (cell (z .state)) (z .ed) dfu 0 (length (f .dfu)),
       div-le-self (length (f .dfu)) (z .ed),
       lengths z (length (f .dfu)) (length (f .state)) _ _ r .dfu,
     )

@@ -12,9 +12,10 @@ use lib.Dec.{leb, ltb}
 use Rattle.state.specs.declared.State.{State}
 use Rattle.state.specs.declared.State.the-variants.{Boot, Swap, Revert, DfuDetach}
 use Rattle.state.specs.Choice.{pick}
-use Rattle.state.specs.Magic.{marked, magic}
+use Rattle.state.specs.Cells.{marked}
+use Rattle.state.specs.Magic.{magic}
 use Rattle.geometry.specs.declared.Geometry.{Geometry}
-use Rattle.geometry.specs.Geometry.{page, pages, words}
+use Rattle.geometry.specs.Geometry.{cell, page, pages, words}
 use Rattle.geometry.specs.Refusals.{bootWords}
 use Rattle.geometry.specs.Admitted.{Admitted}
 use Rattle.geometry.proofs.Rows.{admitted}
@@ -59,15 +60,15 @@ module _ (g : Geometry) (f : Flash) (a : Area) where
   abbrev unit : ℕ
   unit = unitOf g a
 
-  units-within : (n from : ℕ) → from % unit ≡ 0 → from + n * unit ≤ length (areaOf a f) → AllWithin g f (unitOps n unit a from)
+  units-within : (n from : ℕ) → from % unit ≡ 0 → from + n * unit ≤ length (areaOf a f) → AllWithin g f (unitOps (cell (g .state)) n unit a from)
   unfolding unitOps
   units-within zero from x h = none
   units-within (suc n) from x h =
       let h′ : from + (n * unit + unit) ≤ length (areaOf a f) = rw suc-mul at h in
-      one {o = erase a from unit} (refl, aligned unit from unit (length (areaOf a f)) x (mod-self unit) (omega arith))
+      one {o = erase (cell (g .state)) a from unit} (refl, aligned unit from unit (length (areaOf a f)) x (mod-self unit) (omega arith))
       (units-within n (from + unit) (even-sum unit from unit x (mod-self unit)) (omega arith))
 
-  erase-within : (from n : ℕ) → from % unit ≡ 0 → from + n ≤ length (areaOf a f) → AllWithin g f (eraseOps unit a from n)
+  erase-within : (from n : ℕ) → from % unit ≡ 0 → from + n ≤ length (areaOf a f) → AllWithin g f (eraseOps (cell (g .state)) unit a from n)
   unfolding eraseOps
   erase-within from n x h = units-within (n / unit) from x (omega (arith, div-mul-le-self n unit))
 
@@ -75,7 +76,7 @@ module _ (g : Geometry) (f : Flash) (a : Area) where
 
 chunks-within : (g : Geometry) (f : Flash) (n : ℕ) (a : Area) (at from b : ℕ) (source : List ℕ) → at % writeUnit g a ≡ 0
     → b % writeUnit g a ≡ 0
-    → at + n * b ≤ length (areaOf a f) → from + n * b ≤ length source → AllWithin g f (chunkOps n a at from b source)
+    → at + n * b ≤ length (areaOf a f) → from + n * b ≤ length source → AllWithin g f (chunkOps (cell (g .state)) n a at from b source)
 unfolding chunkOps
 chunks-within g f zero a at from b source x y h k = none
 chunks-within g f (suc n) a at from b source x y h k =
@@ -113,7 +114,7 @@ module _ (g : Geometry) (f : Flash) (ad : Admitted g (length (f .active)) (lengt
   units state i = absurd i
 
   word-within : (i : ℕ) (v : ℕ) → i * g .state .ws + g .state .ws ≤ length (f .state)
-      → Within g f (write state (i * g .state .ws) (replicate (g .state .ws) v))
+      → Within g f (write (cell (g .state)) state (i * g .state .ws) (replicate (g .state .ws) v))
   unfolding writeUnit areaOf
   word-within i v h =
       subst (λ (n : ℕ). Aligned (g .state .ws) (i * g .state .ws) n (length (f .state))) (sym (length-replicate (g .state .ws) v))
@@ -131,7 +132,7 @@ module _ (g : Geometry) (f : Flash) (ad : Admitted g (length (f .active)) (lengt
       (chunks-within g f (page g / g .b) (c .to) (c .target * page g) (c .source * page g) (g .b) (sourceOf (c .to) h)
       (even-many _ (page g) (c .target) (u .1)) (u .2) (omega (arith, whole, at .target))
       (omega (arith, whole, at .source, source-length (c .to) h f l))))
-      (one (word-within (2 + c .mark) marked (at .mark)) none)
+      (one (word-within (2 + c .mark) (marked (cell (g .state))) (at .mark)) none)
 
   copies-within : (cs : List Copy) (h : Flash) → SameLengths h f → AllLie g f cs → AllWithin g f (copiesOps g cs h)
   unfolding copiesOps onceOps
@@ -220,7 +221,7 @@ module _ (g : Geometry) (f : Flash) (ad : Admitted g (length (f .active)) (lengt
   unfolding renewOps magicOp bootWords unitOf areaOf
   renew-within m =
       let sign : Within g f (magicOp (g .state) m) =
-      subst (λ (i : ℕ). Within g f (write state i (replicate (g .state .ws) m))) (zero-mul (g .state .ws))
+      subst (λ (i : ℕ). Within g f (write (cell (g .state)) state i (replicate (g .state .ws) m))) (zero-mul (g .state .ws))
       (word-within 0 m (word-there 0 (omega arith))) in
       within-append
       (erase-within g f state 0 (length (f .state)) (mod-eq-zero-of-dvd (g .state .es) (dvd-zero (g .state .es))) (omega arith))
@@ -230,8 +231,8 @@ module _ (g : Geometry) (f : Flash) (ad : Admitted g (length (f .active)) (lengt
   unfolding finishOps invalidateOp bootWords
   finish-within =
       let void : Within g f (invalidateOp (g .state)) =
-      subst (λ (i : ℕ). Within g f (write state i (replicate (g .state .ws) marked))) (one-mul (g .state .ws))
-      (word-within 1 marked (word-there 1 (omega arith))) in
+      subst (λ (i : ℕ). Within g f (write (cell (g .state)) state i (replicate (g .state .ws) (marked (cell (g .state)))))) (one-mul (g .state .ws))
+      (word-within 1 (marked (cell (g .state))) (word-there 1 (omega arith))) in
       one void (renew-within (magic Revert))
 
   same : SameLengths f f

@@ -10,10 +10,11 @@ use borrow.Author.Tests.{ltb-false}
 use Rattle.state.specs.declared.State.{State}
 use Rattle.state.specs.declared.State.the-variants.{Swap}
 use Rattle.state.specs.Choice.{pick}
-use Rattle.state.specs.Magic.{marked, magic, throughout}
+use Rattle.state.specs.Cells.{marked}
+use Rattle.state.specs.Magic.{magic, throughout}
 use Rattle.geometry.specs.declared.StateSizes.{StateSizes}
 use Rattle.geometry.specs.declared.Geometry.{Geometry}
-use Rattle.geometry.specs.Geometry.{words}
+use Rattle.geometry.specs.Geometry.{cell, words}
 use Rattle.geometry.specs.Refusals.{badState, otherWords, stateRefusal}
 use Rattle.geometry.proofs.Tests.{any-none, row-none, even, even-times}
 use Rattle.mem_flash.specs.Flash.{Flash, Op, writtenAt, applyAll, after}
@@ -64,8 +65,8 @@ module _ (s : State) (z : StateSizes) (f : Flash) where
   unfolding pick applyAll closed
   marked-state true fit =
       ap (applyAll (renewOps z (length st) (magic s))) (closed-void (f .active) (f .dfu) z st)
-      ∙ renewed (f .active) (f .dfu) s z (length st) (writtenAt (z .ws) (replicate (z .ws) marked) st) (fit .1)
-      (length-written (z .ws) (replicate (z .ws) marked) st) (fit .0)
+      ∙ renewed (f .active) (f .dfu) s z (length st) (writtenAt (cell z) (z .ws) (replicate (z .ws) (marked (cell z))) st) (fit .1)
+      (length-written (cell z) (z .ws) (replicate (z .ws) (marked (cell z))) st) (fit .0)
   marked-state false fit = renewed (f .active) (f .dfu) s z (length st) st (fit .1) refl (fit .0)
 
   abbrev call : Call

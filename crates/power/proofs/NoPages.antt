@@ -10,7 +10,7 @@ use lib.ListN.{length, take, drop, take-append-drop}
 use Rattle.state.specs.declared.State.{State}
 use Rattle.state.specs.declared.State.the-variants.{Revert}
 use Rattle.geometry.specs.declared.Geometry.{Geometry}
-use Rattle.geometry.specs.Geometry.{page}
+use Rattle.geometry.specs.Geometry.{cell, page}
 use Rattle.mem_flash.specs.Flash.{Flash, Op, blank}
 use Rattle.rules.specs.Steps.{swapFrom, pageCount}
 use Rattle.rules.specs.Boot.{finishOps, bootOps}
@@ -69,7 +69,7 @@ module _ (g : Geometry) (f : Flash) (m : Marked g f) (none : pageCount g f ≡ 0
   whole = closed (f .active) (f .dfu) (magicArea (g .state) Revert (length (f .state)))
 
   abbrev part : ℕ → ℕ → Flash
-  part n u = closed (f .active) (f .dfu) (blank (u * g .state .es) (revertMarks (g .state) n (length (f .state))))
+  part n u = closed (f .active) (f .dfu) (blank (cell (g .state)) (u * g .state .es) (revertMarks (g .state) n (length (f .state))))
 
   turns-none : (ks : List ℕ) (k : ℕ) → FirstWhole g ks k f → ByLastCut g ks k f whole (part 0)
   turns-none ks k =

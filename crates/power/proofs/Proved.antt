@@ -5,7 +5,7 @@ use Prim.Native.Nat.{ℕ, _-_}
 use native.Mathlib.Omega.{arith}
 use lib.ListN.{length}
 use Rattle.geometry.specs.declared.Geometry.{Geometry}
-use Rattle.geometry.specs.Geometry.{page, words}
+use Rattle.geometry.specs.Geometry.{cell, page, words}
 use Rattle.geometry.specs.Refusals.{bootWords}
 use Rattle.geometry.proofs.Rows.{admitted}
 use Rattle.mem_flash.specs.Flash.{Flash, blank}
@@ -60,8 +60,8 @@ module _ (g : Geometry) (f : Flash) (r : Ready g f) where
         reverts = turns;
         erased-whole =
             ap (closed (f .active) (revertedDfu g f))
-            (ap (λ (n : ℕ). blank n (revertMarks (g .state) (pageCount g f) (length (f .state)))) (s .units)
-            ∙ blank-all (length (f .state)) (revertMarks (g .state) (pageCount g f) (length (f .state))) marks-size);
+            (ap (λ (n : ℕ). blank (cell (g .state)) n (revertMarks (g .state) (pageCount g f) (length (f .state)))) (s .units)
+            ∙ blank-all (cell (g .state)) (length (f .state)) (revertMarks (g .state) (pageCount g f) (length (f .state))) marks-size);
         swap-soon = swap-soon g f (r .marked) (r .some-page);
         revert-soon = revert-soon g f (r .marked) (revertedDfu g f) end;
         revert-sooner = revert-sooner g f (r .marked) (revertedDfu g f) end;

@@ -8,9 +8,9 @@ use native.Mathlib.Nat.{mul-mod-right}
 use native.Mathlib.Omega.{arith}
 use lib.ListN.{length}
 use Rattle.state.specs.declared.State.the-variants.{Swap, Revert}
-use Rattle.state.specs.Magic.{erased}
+use Rattle.state.specs.Cells.{erased}
 use Rattle.geometry.specs.declared.Geometry.{Geometry}
-use Rattle.geometry.specs.Geometry.{page}
+use Rattle.geometry.specs.Geometry.{cell, page}
 use Rattle.mem_flash.specs.Flash.{Flash, blank}
 use Rattle.mem_flash.proofs.Areas.{flash-path}
 use Rattle.rules.specs.StateArea.{readState}
@@ -33,10 +33,11 @@ use Rattle.power.proofs.Start.{markRoom, stateBytes, swappedActive, swa
 abbrev Turns : Geometry → List ℕ → ℕ → Flash → List ℕ → List ℕ → ℕ → List ℕ → Type 0
 Turns g ks k f A R n st =
     (((r : ℕ) → 1 ≤ r → r ≤ n / g .state .es → Short r g ks f → ⊥) × Ends g ks k f Swap (closed A R (magicArea (g .state) Revert n)))
-    ⊎ ((r : ℕ) × (1 ≤ r) × (r ≤ n / g .state .es) × Short r g ks f × Rests g ks k f (closed A R (blank ((n / g .state .es + 1 - r) * g .state .es) st)))
+    ⊎ ((r : ℕ) × (1 ≤ r) × (r ≤ n / g .state .es) × Short r g ks f
+    × Rests g ks k f (closed A R (blank (cell (g .state)) ((n / g .state .es + 1 - r) * g .state .es) st)))
 
 turned : (g : Geometry) (ks : List ℕ) (k : ℕ) (f : Flash) (A R : List ℕ) (n : ℕ) (st : List ℕ) → length (f .state) ≡ n → Turns g ks k f A R n st
-    → ByLastCut g ks k f (closed A R (magicArea (g .state) Revert n)) (λ u. closed A R (blank (u * g .state .es) st))
+    → ByLastCut g ks k f (closed A R (magicArea (g .state) Revert n)) (λ u. closed A R (blank (cell (g .state)) (u * g .state .es) st))
 unfolding InErase stateUnits
 turned g ks k f A R n st e (inl t) = inl (λ i. t .0 (i .0) (i .1) (rw (sym e) (i .2)) (i .3), t .1)
 turned g ks k f A R n st e (inr t) =
@@ -45,7 +46,7 @@ turned g ks k f A R n st e (inr t) =
       t .1,
       rw e (t .2),
       t .3,
-      subst (λ (m : ℕ). Rests g ks k f (closed A R (blank ((m / g .state .es + 1 - t .0) * g .state .es) st))) (sym e) (t .4),
+      subst (λ (m : ℕ). Rests g ks k f (closed A R (blank (cell (g .state)) ((m / g .state .es + 1 - t .0) * g .state .es) st))) (sym e) (t .4),
     )
 
 -- what holds of both ends holds of the flash that is left
@@ -59,7 +60,7 @@ abbrev pub stepsBack : Geometry → Flash → ℕ
 stepsBack g f = length (revertFrom (pageCount g f) 0 (2 * pageCount g f))
 
 abbrev pub revertEnd : Geometry → Flash → List ℕ → Flash
-revertEnd g f R = closing g (f .active) R (markRoom g f) (4 * pageCount g f) erased
+revertEnd g f R = closing g (f .active) R (markRoom g f) (4 * pageCount g f) (erased (cell (g .state)))
 
 -- back from the swap table
 module _ (g : Geometry) (f : Flash) (m : Marked g f) (R : List ℕ)
@@ -122,9 +123,11 @@ module _ (g : Geometry) (f : Flash) (m : Marked g f) (R : List ℕ)
   abbrev gone : ℕ → Flash
   gone = erasedPart g (f .active) R (markRoom g f) (4 * N)
 
-  parts : (j : ℕ) → gone j ≡ closed (f .active) R (blank (j * g .state .es) (revertMarks (g .state) N S))
+  parts : (j : ℕ) → gone j ≡ closed (f .active) R (blank (cell (g .state)) (j * g .state .es) (revertMarks (g .state) N S))
   unfolding erasedPart
-  parts j = ap (λ (l : List ℕ). closed (f .active) R (blank (j * g .state .es) l)) (reverted-marks (g .state) N (markRoom g f) (omega (arith, s .room)))
+  parts j =
+      ap (λ (l : List ℕ). closed (f .active) R (blank (cell (g .state)) (j * g .state .es) l))
+      (reverted-marks (g .state) N (markRoom g f) (omega (arith, s .room)))
 
   -- a run that is cut did not start with units erased
   not-erased : (k : ℕ) (x : Flash) → Admits g x → Cut g k x → (j : ℕ) → 1 ≤ j → j ≤ S / g .state .es → x ≡ gone j → ⊥
@@ -159,7 +162,7 @@ module _ (g : Geometry) (f : Flash) (m : Marked g f) (R : List ℕ)
 
   pub turns-back : (ks : List ℕ) (k : ℕ) → FirstWhole g ks k (swapTable g f)
       → ByLastCut g ks k (swapTable g f) (closed (f .active) R (magicArea (g .state) Revert (length (f .state))))
-      (λ u. closed (f .active) R (blank (u * g .state .es) (revertMarks (g .state) N (length (f .state)))))
+      (λ u. closed (f .active) R (blank (cell (g .state)) (u * g .state .es) (revertMarks (g .state) N (length (f .state)))))
   turns-back ks k w =
       turned g ks k (swapTable g f) (f .active) R (length (f .state)) _ swapped-size
       (subst (λ (n : ℕ). Turns g ks k (swapTable g f) (f .active) R n (revertMarks (g .state) N n)) (sym (s .state))

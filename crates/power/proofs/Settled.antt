@@ -10,30 +10,27 @@ use Prim.Native.Nat.{ℕ, suc, _+_, _*_, _/_, _≤_, _<_, zero-le}
 use native.Mathlib.Nat.{eq-or-lt-of-le, lt-of-not-le, mul-le-mul-right, div-mul-le-self}
 use native.Mathlib.Decide.{decLe}
 use native.Mathlib.Omega.{arith}
-use lib.ListN.{length, replicate}
+use lib.ListN.{length}
 use Rattle.state.specs.declared.State.{State}
 use Rattle.state.specs.declared.State.the-variants.{Boot, Swap, Revert, DfuDetach}
-use Rattle.state.specs.Magic.{marked}
 use Rattle.geometry.specs.declared.StateSizes.{StateSizes}
 use Rattle.geometry.specs.declared.Geometry.{Geometry}
-use Rattle.geometry.specs.Geometry.{page, pages, words}
+use Rattle.geometry.specs.Geometry.{pages, words}
 use Rattle.geometry.specs.Refusals.{bootWords}
 use Rattle.geometry.specs.Admitted.{Admitted}
 use Rattle.geometry.proofs.Rows.{admitted}
 use Rattle.geometry.proofs.Tests.{even-times}
-use Rattle.mem_flash.specs.Flash.{Flash, Op, erasedAt, writtenAt, change, apply, applyAll, after}
-use Rattle.mem_flash.specs.Areas.{areaOf, Image}
-use Rattle.mem_flash.proofs.Chunks.{chunked}
+use Rattle.mem_flash.specs.Flash.{Flash, Op, applyAll, after}
+use Rattle.mem_flash.specs.Areas.{Image}
 use Rattle.mem_flash.proofs.After.{apply-append, after-all, after-none}
-use Rattle.mem_flash.proofs.Areas.{placed-same, state-placed, all-lengths}
-use Rattle.rules.specs.StateArea.{readState, mostMarks, progress, markOp}
-use Rattle.rules.specs.Steps.{Copy, swapFrom, revertFrom, sourceOf, unitOf, fillOps, copyOps, onceOps, copiesOps, pageCount}
+use Rattle.mem_flash.proofs.Areas.{all-lengths}
+use Rattle.rules.specs.StateArea.{readState, mostMarks, progress}
+use Rattle.rules.specs.Steps.{Copy, swapFrom, revertFrom, onceOps, copiesOps, pageCount}
 use Rattle.rules.specs.Calls.{Report}
 use Rattle.rules.specs.Boot.{confirming, bootOpsIn, bootOps, prepareBoot}
 use Rattle.rules.proofs.Spread.{revert-reads, boot-reads, area-reads}
 use Rattle.rules.proofs.MarkWritten.{withMark, same-state, mark-passes}
-use Rattle.way.proofs.Fill.{fill-placed}
-use Rattle.way.proofs.Steps.{Whole, whole-page}
+use Rattle.rules.proofs.Remembered.{step-state}
 use Rattle.way.proofs.Finish.{closed, closeOps, finish-close, renewed, finished}
 use Rattle.way.proofs.Way.{Reads, once-skip, once-do}
 use Rattle.way.proofs.Tables.{swap-count, StepRow, swap-row}
@@ -44,46 +41,22 @@ use Rattle.power.proofs.Runs.{Admits, ran-after, admits-ran, whole-long
 
 -- ---- the state area after the swap's steps
 
--- a whole step leaves the state area with its mark
-step-state : (g : Geometry) → Whole g → (c : Copy) (f : Flash) → Image (c .to)
-    → applyAll (copyOps g c f) f .state ≡ withMark (g .state) (c .mark) (f .state)
-unfolding copyOps applyAll apply markOp change withMark
-step-state g whole c f i =
-    ap (λ (x : Flash). x .state)
-    (apply-append fills markOps f
-    ∙ ap (applyAll markOps)
-    (ap (applyAll fills) (sym (placed-same (c .to) f))
-    ∙ fill-placed (unitOf g (c .to)) (page g) (g .b) (c .target * page g) (c .source * page g) (c .to) (sourceOf (c .to) f)
-    (areaOf (c .to) f) f (whole .units (c .to) i)))
-    ∙ ap (writtenAt ((2 + c .mark) * g .state .ws) (replicate (g .state .ws) marked)) (state-placed (c .to) page-left f i)
-  where
-    fills : List Op
-    fills = fillOps (unitOf g (c .to)) (page g) (g .b) (c .target * page g) (c .source * page g) (sourceOf (c .to) f) (c .to)
-
-    markOps : List Op
-    markOps = markOp (g .state) (c .mark) ∷ []
-
-    page-left : List ℕ
-    page-left =
-        chunked (page g / g .b) (c .target * page g) (c .source * page g) (g .b) (sourceOf (c .to) f)
-        (erasedAt (c .target * page g) (page g) (areaOf (c .to) f))
-
 -- the state area st′ reads as st does, and its progress is i or more
 record Past (z : StateSizes) (st st′ : List ℕ) (i : ℕ) : Type 0 where
   same : readState z st′ ≡ readState z st
   size : length st′ ≡ length st
   past : i ≤ progress z st′
 
-once-past : (g : Geometry) → Whole g → (c : Copy) (f : Flash) → Image (c .to) → c .mark ≤ progress (g .state) (f .state)
+once-past : (g : Geometry) (c : Copy) (f : Flash) → Image (c .to) → c .mark ≤ progress (g .state) (f .state)
     → c .mark < mostMarks (g .state) (f .state) → Past (g .state) (f .state) (applyAll (onceOps g c f) f .state) (suc (c .mark))
 unfolding applyAll
-once-past g whole c f i h m = go (eq-or-lt-of-le h)
+once-past g c f i h m = go (eq-or-lt-of-le h)
   where
     go : (c .mark ≡ progress (g .state) (f .state)) ⊎ (c .mark < progress (g .state) (f .state))
         → Past (g .state) (f .state) (applyAll (onceOps g c f) f .state) (suc (c .mark))
     go (inl e) =
         let d : applyAll (onceOps g c f) f .state ≡ withMark (g .state) (c .mark) (f .state) =
-        ap (λ (os : List Op). applyAll os f .state) (once-do g c f (omega (arith, e))) ∙ step-state g whole c f i in
+        ap (λ (os : List Op). applyAll os f .state) (once-do g c f (omega (arith, e))) ∙ step-state g c f i in
         record {
           same = ap (readState (g .state)) d ∙ same-state (g .state) (c .mark) (f .state);
           size = all-lengths (onceOps g c f) f .state;
@@ -93,17 +66,17 @@ once-past g whole c f i h m = go (eq-or-lt-of-le h)
         let d : applyAll (onceOps g c f) f .state ≡ f .state = ap (λ (os : List Op). applyAll os f .state) (once-skip g c f l) in
         record { same = ap (readState (g .state)) d; size = ap length d; past = rw d l }
 
-row-passed : (g : Geometry) → Whole g → (cs : List Copy) (i : ℕ) (f : Flash) → StepRow i cs → i ≤ progress (g .state) (f .state)
+row-passed : (g : Geometry) (cs : List Copy) (i : ℕ) (f : Flash) → StepRow i cs → i ≤ progress (g .state) (f .state)
     → i + length cs ≤ mostMarks (g .state) (f .state)
     → Past (g .state) (f .state) (applyAll (copiesOps g cs f) f .state) (i + length cs)
 unfolding copiesOps applyAll mostMarks
-row-passed g whole [] i f r h m = record { same = refl; size = refl; past = omega arith }
-row-passed g whole (c ∷ cs) i f r h m =
+row-passed g [] i f r h m = record { same = refl; size = refl; past = omega arith }
+row-passed g (c ∷ cs) i f r h m =
     let e : c .mark ≡ i = r .1 in
-    let o = once-past g whole c f (r .0) (omega arith) (omega arith) in
+    let o = once-past g c f (r .0) (omega arith) (omega arith) in
     let next : Flash = applyAll (onceOps g c f) f in
     let z : words (g .state .ws) (length (next .state)) ≡ words (g .state .ws) (length (f .state)) = ap (words (g .state .ws)) (o .size) in
-    let q = row-passed g whole cs (suc i) next (r .2) (omega (arith, o .past)) (omega arith) in
+    let q = row-passed g cs (suc i) next (r .2) (omega (arith, o .past)) (omega arith) in
     let d : applyAll (copiesOps g (c ∷ cs) f) f .state ≡ applyAll (copiesOps g cs next) next .state =
     ap (λ (x : Flash). x .state) (apply-append (onceOps g c f) (copiesOps g cs next) f) in
     record {
@@ -163,7 +136,7 @@ module _ (g : Geometry) (f : Flash) (a : Admits g f) where
     unfolding bootWords mostMarks
     swap-through h =
         let n : length (swapFrom N 0) ≡ 2 * N = swap-count N 0 in
-        let p = row-passed g (whole-page ad) (swapFrom N 0) 0 f (swap-row N 0) zero-le (omega (arith, enough)) in
+        let p = row-passed g (swapFrom N 0) 0 f (swap-row N 0) zero-le (omega (arith, enough)) in
         let d : bootOps g f ≡ copiesOps g (swapFrom N 0) f =
         wants-swap reads h in
         subst (λ (os : List Op). Past (g .state) (f .state) (applyAll os f .state) (2 * N)) (sym d)

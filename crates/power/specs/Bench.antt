@@ -1,6 +1,7 @@
 -- The statement of specs/Power is not empty: the bench sheet's start meets its premises, and the tables there are the sheet's
 -- cases a and f; case l is a flash without pages. The sheet has one erase unit to a page, so a start with several is here besides,
--- with a cut inside the state's erase, and one whose erase sizes do not divide each other. Case j is a start for the statement of specs/Confirm. Proved in proofs/Bench. Assumes nothing.
+-- with a cut inside the state's erase, one whose erase sizes do not divide each other, and one on flash that erases to zero. Case j is
+-- a start for the statement of specs/Confirm. Proved in proofs/Bench. Assumes nothing.
 use mathlib.Core.Path.{_≡_}
 use mathlib.Core.List.{List, [], _∷_, _++_, map}
 use Prim.Native.Nat.{ℕ}
@@ -38,7 +39,7 @@ pub record OnTheBench : Type 0 where
 
 -- two erase units to a page of active, four to the state area
 unfoldable pub fine : Geometry
-fine = record { ea = 2; wa = 2; ed = 4; wd = 2; state = record { es = 4; ws = 1 }; b = 2 }
+fine = record { ea = 2; wa = 2; ed = 4; wd = 2; state = record { es = 4; ws = 1; ev = 255 }; b = 2 }
 
 unfoldable pub fineCase : List Run → Report → Flash → Case
 fineCase runs r f = record { geometry = fine; start = fresh 15; runs = runs; answer = r; left = f }
@@ -73,7 +74,7 @@ pub record InUnits : Type 0 where
 
 -- 2 and 3 bytes: two pages of 6, three erase units to a page of active and two to one of DFU
 unfoldable pub unlike : Geometry
-unlike = record { ea = 2; wa = 1; ed = 3; wd = 1; state = record { es = 11; ws = 1 }; b = 3 }
+unlike = record { ea = 2; wa = 1; ed = 3; wd = 1; state = record { es = 11; ws = 1; ev = 255 }; b = 3 }
 
 unfoldable pub six : ℕ → List ℕ
 six n = n ∷ n ∷ n ∷ n ∷ n ∷ n ∷ []
@@ -86,7 +87,7 @@ unlikeSwapped = flash (six 4 ++ six 5) (six 4 ++ (six 1 ++ six 2)) (0xF0 ∷ 0xF
 
 -- the request's head: 264 and 4,096 bytes
 unfoldable pub newHead : Geometry
-newHead = record { ea = 264; wa = 8; ed = 4096; wd = 256; state = record { es = 4096; ws = 4 }; b = 256 }
+newHead = record { ea = 264; wa = 8; ed = 4096; wd = 256; state = record { es = 4096; ws = 4; ev = 255 }; b = 256 }
 
 -- two steps of either kind
 unfoldable pub unlikeCase : Case
@@ -103,6 +104,41 @@ pub record Unlike : Type 0 where
   -- the request's sizes are admitted with one page, said of the numbers alone
   pub head-page : page newHead ≡ 135168
   pub head-admitted : bootRefusal newHead 135168 270336 4096 ≡ 0
+
+-- ---- flash that erases to zero (02, No. 11)
+
+-- the sheet's numbers and its start, with the erase value 0
+unfoldable pub zeroSizes : Geometry
+zeroSizes = record { ea = 4; wa = 2; ed = 4; wd = 2; state = record { es = 16; ws = 1; ev = 0 }; b = 2 }
+
+unfoldable pub zeroStart : Flash
+zeroStart = flash (filled (1 ∷ 2 ∷ 3 ∷ [])) (filled (4 ∷ 5 ∷ 6 ∷ 7 ∷ [])) (0xF0 ∷ zeros 15)
+
+unfoldable pub zeroCase : List Run → Report → List ℕ → List ℕ → List ℕ → Case
+zeroCase runs r front back st =
+    record { geometry = zeroSizes; start = zeroStart; runs = runs; answer = r; left = flash (filled front) (filled back) st }
+
+-- the cases a, d, f, g, h, i and j: the same answers and pages, an erased page holds 00, and a mark is FF
+unfoldable pub toZero : List Case
+toZero =
+    zeroCase (boot 24 ∷ []) (done Swap 24) (4 ∷ 5 ∷ 6 ∷ []) (4 ∷ 1 ∷ 2 ∷ 3 ∷ []) (0xF0 ∷ 0x00 ∷ (ff 6 ++ zeros 8))
+    ∷ zeroCase (boot 1 ∷ []) (cut 1) (1 ∷ 2 ∷ 3 ∷ []) (4 ∷ 5 ∷ 6 ∷ 0x00 ∷ []) (0xF0 ∷ zeros 15)
+    ∷ zeroCase (boot 24 ∷ boot 27 ∷ []) (done Swap 27) (1 ∷ 2 ∷ 3 ∷ []) (4 ∷ 5 ∷ 6 ∷ 3 ∷ []) (0xC0 ∷ zeros 15)
+    ∷ zeroCase (boot 24 ∷ boot 25 ∷ []) (cut 25) (1 ∷ 2 ∷ 3 ∷ []) (4 ∷ 5 ∷ 6 ∷ 3 ∷ []) (0xF0 ∷ 0xFF ∷ (ff 12 ++ zeros 2))
+    ∷ zeroCase (boot 24 ∷ boot 25 ∷ boot 3 ∷ []) (done Swap 3) (1 ∷ 2 ∷ 3 ∷ []) (4 ∷ 5 ∷ 6 ∷ 3 ∷ []) (0xC0 ∷ zeros 15)
+    ∷ zeroCase (boot 24 ∷ boot 26 ∷ boot 0 ∷ []) (done Boot 0) (1 ∷ 2 ∷ 3 ∷ []) (4 ∷ 5 ∷ 6 ∷ 3 ∷ []) (zeros 16)
+    ∷ zeroCase (boot 24 ∷ markBooted 1 ∷ boot 3 ∷ []) (done Swap 2) (4 ∷ 5 ∷ 6 ∷ []) (4 ∷ 1 ∷ 2 ∷ 3 ∷ []) (0xD0 ∷ zeros 15)
+    ∷ []
+
+pub record ErasesToZero : Type 0 where
+  pub ready : Ready zeroSizes zeroStart
+  pub cases : map computed toZero ≡ map told toZero
+  pub swaps : swapTable zeroSizes zeroStart
+      ≡ flash (filled (4 ∷ 5 ∷ 6 ∷ [])) (filled (4 ∷ 1 ∷ 2 ∷ 3 ∷ [])) (0xF0 ∷ 0x00 ∷ (ff 6 ++ zeros 8))
+  pub reverts : reverted zeroSizes zeroStart ≡ flash (filled (1 ∷ 2 ∷ 3 ∷ [])) (filled (4 ∷ 5 ∷ 6 ∷ 3 ∷ [])) (0xC0 ∷ zeros 15)
+  pub rests : revertedErased zeroSizes zeroStart ≡ flash (filled (1 ∷ 2 ∷ 3 ∷ [])) (filled (4 ∷ 5 ∷ 6 ∷ 3 ∷ [])) (zeros 16)
+  -- so the promise holds there too
+  pub power : Power zeroSizes zeroStart
 
 -- case j: on the flash of case a a mark_booted is cut right after its invalidation
 unfoldable pub confirmation : Call

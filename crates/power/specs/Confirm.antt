@@ -10,6 +10,7 @@ use Rattle.state.specs.declared.State.the-variants.{Boot, Swap, Revert}
 use Rattle.geometry.specs.declared.Geometry.{Geometry}
 use Rattle.geometry.specs.declared.Sizes.{Sizes}
 use Rattle.geometry.specs.declared.StateSizes.{StateSizes}
+use Rattle.geometry.specs.Geometry.{cell}
 use Rattle.geometry.specs.Refusals.{bootRefusal}
 use Rattle.mem_flash.specs.Flash.{Flash, blank, Supply, count}
 use Rattle.rules.specs.StateArea.{readState}
@@ -41,7 +42,7 @@ pub record CutConfirmation (c : Call) (k : Supply) : Type 0 where
 -- the marks of a finished swap, invalid, with the first units erased and the rest as they were
 unfoldable pub confirmedPart : Geometry → ℕ → Flash → Flash
 confirmedPart g units f =
-    restated (blank (units * g .state .es) (voidMarks (g .state) (2 * pageCount g f) (length (f .state)))) f
+    restated (blank (cell (g .state)) (units * g .state .es) (voidMarks (g .state) (2 * pageCount g f) (length (f .state)))) f
 
 -- the Boot magic, and erased behind it
 unfoldable pub confirmedWhole : Geometry → Flash → Flash

@@ -23,8 +23,8 @@ pub record Aligned (unit from n size : ℕ) : Type 0 where
   pub inside : from + n ≤ size
 
 abbrev pub Within : Geometry → Flash → Op → Type 0
-Within g f (erase a from n) = (n ≡ unitOf g a) × Aligned (unitOf g a) from n (length (areaOf a f))
-Within g f (write a at bytes) = Aligned (writeUnit g a) at (length bytes) (length (areaOf a f))
+Within g f (erase c a from n) = (n ≡ unitOf g a) × Aligned (unitOf g a) from n (length (areaOf a f))
+Within g f (write c a at bytes) = Aligned (writeUnit g a) at (length bytes) (length (areaOf a f))
 
 -- each operation of a list
 pub data AllWithin (g : Geometry) (f : Flash) : List Op → Type 0 where

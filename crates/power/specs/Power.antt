@@ -10,7 +10,7 @@ use lib.ListN.{length}
 use Rattle.state.specs.declared.State.{State}
 use Rattle.state.specs.declared.State.the-variants.{Boot, Swap, Revert}
 use Rattle.geometry.specs.declared.Geometry.{Geometry}
-use Rattle.geometry.specs.Geometry.{words}
+use Rattle.geometry.specs.Geometry.{cell, words}
 use Rattle.geometry.specs.Refusals.{bootRefusal}
 use Rattle.mem_flash.specs.Flash.{dfu, Flash, blank, Supply, count}
 use Rattle.mem_flash.specs.Areas.{Bytes}
@@ -160,4 +160,4 @@ pub record NoPages (g : Geometry) (f : Flash) : Type 0 where
   pub reverts-dfu : (ks : List Supply) (k : Supply) → FirstWhole g ks k f → ran g k (runs g ks f) .dfu ≡ f .dfu
   pub reverts : (ks : List Supply) (k : Supply) → FirstWhole g ks k f
       → ByLastCut g ks k f (restated (magicArea (g .state) Revert (length (f .state))) f)
-      (λ u. restated (blank (u * g .state .es) (revertMarks (g .state) 0 (length (f .state)))) f)
+      (λ u. restated (blank (cell (g .state)) (u * g .state .es) (revertMarks (g .state) 0 (length (f .state)))) f)

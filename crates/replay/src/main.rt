@@ -15,6 +15,7 @@ struct Record {
     es: u32,
     ws: u32,
     b: u32,
+    ev: u32,
     budget: u32,
     offset: u64,
 }
@@ -35,21 +36,21 @@ fn wide(x: u8) -> u64
 }
 
 // A number of four bytes, the lowest first. The head of the whole sample is read with the same function as that of a record.
-fn number(head: &[u8; 84], at: usize) -> u32
-    requires { ⌜ at + 4 ≤ 84 ⌝ }
+fn number(head: &[u8; 88], at: usize) -> u32
+    requires { ⌜ at + 4 ≤ 88 ⌝ }
 {
     let low = wide(head[at]) + wide(head[at + 1]) * 256;
     let high = wide(head[at + 2]) + wide(head[at + 3]) * 256;
     (low + high * 65536) as u32
 }
 
-fn long_number(head: &[u8; 84], at: usize) -> u64
-    requires { ⌜ at + 8 ≤ 84 ⌝ }
+fn long_number(head: &[u8; 88], at: usize) -> u64
+    requires { ⌜ at + 8 ≤ 88 ⌝ }
 {
     number(head, at) as u64 + number(head, at + 4) as u64 * 4294967296
 }
 
-fn decode(head: &[u8; 84]) -> Record {
+fn decode(head: &[u8; 88]) -> Record {
     Record {
         kind: number(head, 4),
         ea: number(head, 8),
@@ -59,8 +60,9 @@ fn decode(head: &[u8; 84]) -> Record {
         es: number(head, 24),
         ws: number(head, 28),
         b: number(head, 32),
-        budget: number(head, 56),
-        offset: long_number(head, 60),
+        ev: number(head, 36),
+        budget: number(head, 60),
+        offset: long_number(head, 64),
     }
 }
 
@@ -69,27 +71,45 @@ fn decode(head: &[u8; 84]) -> Record {
 fn call_state(r: Record, state: &mut [u8]) -> u64 {
     let kind = r.kind;
     match kind {
-        1 => embassy_boot::eb_read_state(state, r.es, r.ws),
-        2 => embassy_boot::eb_state_get_state(state, r.es, r.ws),
-        3 => embassy_boot::eb_state_mark_updated(state, r.es, r.ws, r.budget),
-        4 => embassy_boot::eb_state_mark_dfu(state, r.es, r.ws, r.budget),
-        _ => embassy_boot::eb_state_mark_booted(state, r.es, r.ws, r.budget),
+        1 => embassy_boot::eb_read_state(state, r.es, r.ws, r.ev),
+        2 => embassy_boot::eb_state_get_state(state, r.es, r.ws, r.ev),
+        3 => embassy_boot::eb_state_mark_updated(state, r.es, r.ws, r.ev, r.budget),
+        4 => embassy_boot::eb_state_mark_dfu(state, r.es, r.ws, r.ev, r.budget),
+        _ => embassy_boot::eb_state_mark_booted(state, r.es, r.ws, r.ev, r.budget),
     }
 }
 
 fn call_updater(r: Record, dfu: &[u8], state: &mut [u8]) -> u64 {
     let kind = r.kind;
     match kind {
-        6 => embassy_boot::eb_updater_get_state(dfu, state, r.ed, r.wd, r.es, r.ws),
-        7 => embassy_boot::eb_updater_mark_updated(dfu, state, r.ed, r.wd, r.es, r.ws, r.budget),
-        8 => embassy_boot::eb_updater_mark_dfu(dfu, state, r.ed, r.wd, r.es, r.ws, r.budget),
-        _ => embassy_boot::eb_updater_mark_booted(dfu, state, r.ed, r.wd, r.es, r.ws, r.budget),
+        6 => embassy_boot::eb_updater_get_state(dfu, state, r.ed, r.wd, r.es, r.ws, r.ev),
+        7 => embassy_boot::eb_updater_mark_updated(
+            dfu,
+            state,
+            r.ed,
+            r.wd,
+            r.es,
+            r.ws,
+            r.ev,
+            r.budget,
+        ),
+        8 => embassy_boot::eb_updater_mark_dfu(dfu, state, r.ed, r.wd, r.es, r.ws, r.ev, r.budget),
+        _ => embassy_boot::eb_updater_mark_booted(
+            dfu,
+            state,
+            r.ed,
+            r.wd,
+            r.es,
+            r.ws,
+            r.ev,
+            r.budget,
+        ),
     }
 }
 
 fn read(r: Record, dfu: &[u8], state: &[u8], out: &mut [u8]) -> u64 {
     let offset = (r.offset % 4294967296) as u32;
-    embassy_boot::eb_updater_read_dfu(dfu, state, r.ed, r.wd, r.es, r.ws, offset, out)
+    embassy_boot::eb_updater_read_dfu(dfu, state, r.ed, r.wd, r.es, r.ws, r.ev, offset, out)
 }
 
 fn write(r: Record, dfu: &mut [u8], state: &[u8], data: &[u8], last: &mut u32) -> u64 {
@@ -101,6 +121,7 @@ fn write(r: Record, dfu: &mut [u8], state: &[u8], data: &[u8], last: &mut u32) -
         r.wd,
         r.es,
         r.ws,
+        r.ev,
         r.offset,
         data,
         last,
@@ -120,12 +141,13 @@ fn boot(r: Record, active: &mut [u8], dfu: &mut [u8], state: &mut [u8]) -> u64 {
         r.es,
         r.ws,
         r.b,
+        r.ev,
         r.budget,
     )
 }
 
 fn prepare(r: Record, dfu: &mut [u8], state: &[u8]) -> u64 {
-    embassy_boot::eb_updater_prepare_update(dfu, state, r.ed, r.wd, r.es, r.ws, r.budget)
+    embassy_boot::eb_updater_prepare_update(dfu, state, r.ed, r.wd, r.es, r.ws, r.ev, r.budget)
 }
 
 fn call(
@@ -158,13 +180,13 @@ struct Lengths {
     out: usize,
 }
 
-fn decode_lengths(head: &[u8; 84]) -> Lengths {
+fn decode_lengths(head: &[u8; 88]) -> Lengths {
     Lengths {
-        active: number(head, 36) as usize,
-        dfu: number(head, 40) as usize,
-        state: number(head, 44) as usize,
-        data: number(head, 48) as usize,
-        out: number(head, 52) as usize,
+        active: number(head, 40) as usize,
+        dfu: number(head, 44) as usize,
+        state: number(head, 48) as usize,
+        data: number(head, 52) as usize,
+        out: number(head, 56) as usize,
     }
 }
 
@@ -255,14 +277,14 @@ fn as_after(area: &[u8; 64], n: usize) -> bool {
 
 // ---- a record
 
-fn read_head(head: &mut [u8; 84], n: usize) -> bool {
+fn read_head(head: &mut [u8; 88], n: usize) -> bool {
     read_part(head, n)
 }
 
 // Reads the next record and replays it. All that the record holds is read, however it comes out, since the next one follows.
 fn replay_record() -> Outcome {
-    let mut head = [0u8; 84];
-    if !read_head(&mut head, 84) {
+    let mut head = [0u8; 88];
+    if !read_head(&mut head, 88) {
         return Outcome::Broken;
     }
     let r = decode(&head);
@@ -285,7 +307,7 @@ fn replay_record() -> Outcome {
     if !is_read || kind > 13 {
         return Outcome::Broken;
     }
-    let mut last = number(&head, 68);
+    let mut last = number(&head, 72);
     let result = call_arrays(
         r,
         l,
@@ -300,7 +322,7 @@ fn replay_record() -> Outcome {
     let is_dfu = as_after(&dfu, ld);
     let is_state = as_after(&state, ls);
     let is_out = as_after(&out, lo);
-    if result != long_number(&head, 72) || last != number(&head, 80) {
+    if result != long_number(&head, 76) || last != number(&head, 84) {
         return Outcome::Different(kind);
     }
     if is_active && is_dfu && is_state && is_out {
@@ -390,13 +412,13 @@ fn replay_all(records: u32) {
 }
 
 fn main() {
-    let mut head = [0u8; 84];
+    let mut head = [0u8; 88];
     if !read_head(&mut head, 16) {
         say(b"no sample\n");
         return;
     }
-    // EBRP, version 1
-    if number(&head, 0) != 1347568197 || number(&head, 4) != 1 {
+    // EBRP, version 2
+    if number(&head, 0) != 1347568197 || number(&head, 4) != 2 {
         say(b"no sample\n");
         return;
     }

@@ -10,33 +10,35 @@ use native.Mathlib.Decide.{decLt}
 use native.Mathlib.Omega.{arith}
 use lib.ListN.{length, take, drop, replicate, length-drop}
 use lib.Seq.{drop-at, length-take-le}
+use borrow.Author.Tests.{ne-eqb}
+use Rattle.state.specs.declared.Cell.{Cell}
 use Rattle.state.specs.Choice.{pick}
-use Rattle.state.specs.Magic.{erased, marked, throughout, holds, stateOf}
+use Rattle.state.specs.Cells.{erased, marked}
+use Rattle.state.specs.Magic.{throughout, holds, stateOf}
 use Rattle.geometry.specs.declared.StateSizes.{StateSizes}
-use Rattle.geometry.specs.Geometry.{words}
+use Rattle.geometry.specs.Geometry.{cell, words}
 use Rattle.mem_flash.specs.Flash.{program, writtenAt}
-use Rattle.mem_flash.proofs.Bytes.{programmed-marked, marked-not-erased}
+use Rattle.state.proofs.Cells.{mark-stays}
 use Rattle.mem_flash.proofs.Stretches.{length-written}
 use Rattle.rules.specs.StateArea.{word, readState, valid, markOpen, mostMarks, firstOpen, marksDone, progress}
 use Rattle.rules.proofs.StateWords.{open-turn, progress-valid, progress-invalid}
-use Rattle.rules.proofs.Spread.{holds-other}
 
 -- the bytes before a write are as they were
-part-before : (p n q : ℕ) (bs xs : List ℕ) → p + n ≤ q → take n (drop p (writtenAt q bs xs)) ≡ take n (drop p xs)
+part-before : (c : Cell) (p n q : ℕ) (bs xs : List ℕ) → p + n ≤ q → take n (drop p (writtenAt c q bs xs)) ≡ take n (drop p xs)
 unfolding writtenAt program
-part-before p zero q bs xs h = refl
-part-before p (suc n) zero bs xs h = absurd (omega arith)
-part-before zero (suc n) (suc q) bs [] h = refl
-part-before zero (suc n) (suc q) bs (x ∷ xs) h = ap (λ (l : List ℕ). x ∷ l) (part-before zero n q bs xs (omega arith))
-part-before (suc p) (suc n) (suc q) bs [] h = refl
-part-before (suc p) (suc n) (suc q) bs (x ∷ xs) h = part-before p (suc n) q bs xs (omega arith)
+part-before c p zero q bs xs h = refl
+part-before c p (suc n) zero bs xs h = absurd (omega arith)
+part-before c zero (suc n) (suc q) bs [] h = refl
+part-before c zero (suc n) (suc q) bs (x ∷ xs) h = ap (λ (l : List ℕ). x ∷ l) (part-before c zero n q bs xs (omega arith))
+part-before c (suc p) (suc n) (suc q) bs [] h = refl
+part-before c (suc p) (suc n) (suc q) bs (x ∷ xs) h = part-before c p (suc n) q bs xs (omega arith)
 
--- a word over which marks are written holds marks
-program-marked : (n : ℕ) (xs : List ℕ) → n ≤ length xs → take n (program xs (replicate n marked)) ≡ replicate n marked
-unfolding program
-program-marked zero xs h = refl
-program-marked (suc n) [] h = absurd (not-suc-le-zero h)
-program-marked (suc n) (x ∷ xs) h = rw (programmed-marked x, program-marked n xs (le-of-suc-le-suc h))
+-- a word over which marks are written is done, whatever it held
+program-marked : (c : Cell) (n : ℕ) (xs : List ℕ) → holds (erased c) (take n (program c xs (replicate n (marked c)))) ≡ false
+unfolding program holds pick
+program-marked c zero xs = refl
+program-marked c (suc n) [] = refl
+program-marked c (suc n) (x ∷ xs) = rw (ne-eqb _ _ (mark-stays c x), program-marked c n xs)
 
 -- ---- the first open mark
 
@@ -84,7 +86,7 @@ opens-on z st most (suc j) h d =
 -- ---- a mark written
 
 unfoldable pub withMark : StateSizes → ℕ → List ℕ → List ℕ
-withMark z i st = writtenAt ((2 + i) * z .ws) (replicate (z .ws) marked) st
+withMark z i st = writtenAt (cell z) ((2 + i) * z .ws) (replicate (z .ws) (marked (cell z))) st
 
 module _ (z : StateSizes) (i : ℕ) (st : List ℕ) where
   -- the words before it
@@ -92,7 +94,7 @@ module _ (z : StateSizes) (i : ℕ) (st : List ℕ) where
   unfolding word withMark
   word-before j l =
       let m : suc j * z .ws ≤ (2 + i) * (z .ws) = mul-le-mul-right (z .ws) (omega arith) in
-      part-before (j * z .ws) (z .ws) ((2 + i) * z .ws) (replicate (z .ws) marked) st (omega arith)
+      part-before (cell z) (j * z .ws) (z .ws) ((2 + i) * z .ws) (replicate (z .ws) (marked (cell z))) st (omega arith)
 
   pub same-state : readState z (withMark z i st) ≡ readState z st
   unfolding readState
@@ -100,7 +102,7 @@ module _ (z : StateSizes) (i : ℕ) (st : List ℕ) where
 
   same-length : length (withMark z i st) ≡ length st
   unfolding withMark
-  same-length = length-written ((2 + i) * z .ws) (replicate (z .ws) marked) st
+  same-length = length-written (cell z) ((2 + i) * z .ws) (replicate (z .ws) (marked (cell z))) st
 
   module _ (here : i < mostMarks z st) where
     -- its own word
@@ -111,18 +113,17 @@ module _ (z : StateSizes) (i : ℕ) (st : List ℕ) where
         let h : (2 + i) * z .ws + z .ws ≤ length st =
         omega (arith, mul-le-mul-right {m = suc (2 + i)} (z .ws) t, div-mul-le-self (length st) (z .ws)) in
         let q : length (take ((2 + i) * z .ws) st) ≡ (2 + i) * (z .ws) = length-take-le ((2 + i) * z .ws) st (omega arith) in
-        ap (λ (l : List ℕ). holds erased (take (z .ws) l))
-        (drop-at (take ((2 + i) * z .ws) st) (program (drop ((2 + i) * z .ws) st) (replicate (z .ws) marked)) ((2 + i) * z .ws) q)
-        ∙ ap (holds erased) (program-marked (z .ws) (drop ((2 + i) * z .ws) st) (simp length-drop (omega arith)))
-        ∙ holds-other (z .ws) erased marked marked-not-erased
+        ap (λ (l : List ℕ). holds (erased (cell z)) (take (z .ws) l))
+        (drop-at (take ((2 + i) * z .ws) st) (program (cell z) (drop ((2 + i) * z .ws) st) (replicate (z .ws) (marked (cell z)))) ((2 + i) * z .ws) q)
+        ∙ program-marked (cell z) (z .ws) (drop ((2 + i) * z .ws) st)
 
     same-open : (q : ℕ) → q < i → markOpen z (withMark z i st) q ≡ markOpen z st q
     unfolding markOpen
-    same-open q l = ap (holds erased) (word-before (2 + q) (omega arith))
+    same-open q l = ap (holds (erased (cell z))) (word-before (2 + q) (omega arith))
 
     same-valid : valid z (withMark z i st) ≡ valid z st
     unfolding valid
-    same-valid = ap (throughout erased) (word-before 1 (omega arith))
+    same-valid = ap (throughout (erased (cell z))) (word-before 1 (omega arith))
 
     same-most : mostMarks z (withMark z i st) ≡ mostMarks z st
     unfolding mostMarks

@@ -27,7 +27,7 @@ picked false p q = q
 
 on-renew : (z : StateSizes) (n m : ℕ) → OnState (renewOps z n m)
 unfolding renewOps magicOp
-on-renew z n m = on-append (on-erase (z .es) 0 n) (writes nothing)
+on-renew z n m = on-append (on-erase _ (z .es) 0 n) (writes nothing)
 
 pub on-mark : (z : StateSizes) (m : ℕ) (st : List ℕ) → OnState (setMagicOps z m st)
 unfolding setMagicOps invalidateOp

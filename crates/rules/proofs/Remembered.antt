@@ -7,8 +7,9 @@ use Prim.Native.Nat.{ℕ, zero, suc, _+_, _-_, _*_, _/_, _≤_, _<_}
 use native.Mathlib.Decide.{decLt}
 use native.Mathlib.Omega.{arith}
 use lib.Seq.{slice}
+use Rattle.state.specs.declared.Cell.{Cell}
 use Rattle.geometry.specs.declared.Geometry.{Geometry}
-use Rattle.geometry.specs.Geometry.{page}
+use Rattle.geometry.specs.Geometry.{cell, page}
 use Rattle.mem_flash.specs.Flash.{Area, active, dfu, state, Flash, Op, erase, unitOps, eraseOps, change, apply, applyAll}
 use Rattle.mem_flash.specs.Areas.{Image}
 use Rattle.mem_flash.proofs.After.{apply-append}
@@ -20,7 +21,7 @@ use Rattle.rules.proofs.Numbered.{next-step, no-step, step-mark}
 
 -- ---- what a step leaves of the state area: its mark, and nothing else is written there
 
-module _ (a : Area) (i : Image a) where
+module _ (c : Cell) (a : Area) (i : Image a) where
   kept : (h : List ℕ → List ℕ) (f : Flash) → change a h f .state ≡ f .state
   unfolding change
   kept h f = go a i
@@ -30,31 +31,31 @@ module _ (a : Area) (i : Image a) where
       go dfu j = refl
       go state j = absurd j
 
-  units-kept : (n unit at : ℕ) (f : Flash) → applyAll (unitOps n unit a at) f .state ≡ f .state
+  units-kept : (n unit at : ℕ) (f : Flash) → applyAll (unitOps c n unit a at) f .state ≡ f .state
   unfolding unitOps applyAll apply
   units-kept zero unit at f = refl
-  units-kept (suc n) unit at f = units-kept n unit (at + unit) (apply (erase a at unit) f) ∙ kept _ f
+  units-kept (suc n) unit at f = units-kept n unit (at + unit) (apply (erase c a at unit) f) ∙ kept _ f
 
-  chunks-kept : (n at from b : ℕ) (src : List ℕ) (f : Flash) → applyAll (chunkOps n a at from b src) f .state ≡ f .state
+  chunks-kept : (n at from b : ℕ) (src : List ℕ) (f : Flash) → applyAll (chunkOps c n a at from b src) f .state ≡ f .state
   unfolding chunkOps applyAll apply
   chunks-kept zero at from b src f = refl
   chunks-kept (suc n) at from b src f = chunks-kept n (at + b) (from + b) b src _ ∙ kept _ f
 
-  fill-kept : (unit p b at from : ℕ) (src : List ℕ) (f : Flash) → applyAll (fillOps unit p b at from src a) f .state ≡ f .state
+  fill-kept : (unit p b at from : ℕ) (src : List ℕ) (f : Flash) → applyAll (fillOps c unit p b at from src a) f .state ≡ f .state
   unfolding fillOps eraseOps
   fill-kept unit p b at from src f =
-      ap (λ (x : Flash). x .state) (apply-append (unitOps (p / unit) unit a at) (chunkOps (p / b) a at from b src) f)
+      ap (λ (x : Flash). x .state) (apply-append (unitOps c (p / unit) unit a at) (chunkOps c (p / b) a at from b src) f)
       ∙ chunks-kept (p / b) at from b src _
       ∙ units-kept (p / unit) unit at f
 
-step-state : (g : Geometry) (c : Copy) (f : Flash) → Image (c .to) → applyAll (copyOps g c f) f .state ≡ withMark (g .state) (c .mark) (f .state)
+pub step-state : (g : Geometry) (c : Copy) (f : Flash) → Image (c .to) → applyAll (copyOps g c f) f .state ≡ withMark (g .state) (c .mark) (f .state)
 unfolding copyOps applyAll apply markOp change withMark
 step-state g c f i =
     ap (λ (x : Flash). x .state)
-    (apply-append (fillOps (unitOf g (c .to)) (page g) (g .b) (c .target * page g) (c .source * page g) (sourceOf (c .to) f) (c .to))
+    (apply-append (fillOps (cell (g .state)) (unitOf g (c .to)) (page g) (g .b) (c .target * page g) (c .source * page g) (sourceOf (c .to) f) (c .to))
     (markOp (g .state) (c .mark) ∷ []) f)
     ∙ ap (withMark (g .state) (c .mark))
-    (fill-kept (c .to) i (unitOf g (c .to)) (page g) (g .b) (c .target * page g) (c .source * page g) (sourceOf (c .to) f) f)
+    (fill-kept (cell (g .state)) (c .to) i (unitOf g (c .to)) (page g) (g .b) (c .target * page g) (c .source * page g) (sourceOf (c .to) f) f)
 
 -- ---- the progress read afresh
 

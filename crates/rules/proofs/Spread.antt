@@ -9,12 +9,16 @@ use native.Mathlib.Omega.{arith}
 use lib.ListN.{length, take, drop, replicate, getD, set, length-append, length-replicate, replicate-append-replicate}
 use lib.Seq.{take-at, drop-append-add, take-append-add}
 use borrow.Author.Tests.{eq-eqb, ne-eqb}
+use Rattle.state.specs.declared.Cell.{Cell}
 use Rattle.state.specs.declared.State.{State}
 use Rattle.state.specs.declared.State.the-variants.{Boot, Swap, Revert, DfuDetach}
 use Rattle.state.specs.Choice.{pick}
-use Rattle.state.specs.Magic.{erased, magic, throughout, holds, stateOf}
+use Rattle.state.specs.Cells.{erased, programmed}
+use Rattle.state.specs.Magic.{magic, throughout, holds, stateOf}
+use Rattle.state.proofs.Cells.{erased-no-magic}
 use Rattle.geometry.specs.declared.StateSizes.{StateSizes}
-use Rattle.mem_flash.specs.Flash.{programmed, blank, program, writtenAt}
+use Rattle.geometry.specs.Geometry.{cell}
+use Rattle.mem_flash.specs.Flash.{blank, program, writtenAt}
 use Rattle.mem_flash.proofs.Bytes.{program-none}
 use Rattle.mem_flash.proofs.Stretches.{blank-is}
 use Rattle.rules.specs.StateArea.{word, readState}
@@ -62,27 +66,27 @@ word-spread z zero (x ∷ bs) h =
 word-spread z (suc k) (x ∷ bs) h = ap (take (z .ws)) (skip (z .ws) k x (spread (z .ws) bs)) ∙ word-spread z k bs (le-of-suc-le-suc h)
 
 -- a word of one byte programmed onto a word of one byte
-program-word : (n x y : ℕ) (zs : List ℕ) → program (replicate n x ++ zs) (replicate n y) ≡ replicate n (programmed x y) ++ zs
+program-word : (c : Cell) (n x y : ℕ) (zs : List ℕ) → program c (replicate n x ++ zs) (replicate n y) ≡ replicate n (programmed c x y) ++ zs
 unfolding program
-program-word zero x y zs = program-none zs
-program-word (suc n) x y zs = ap (λ (r : List ℕ). programmed x y ∷ r) (program-word n x y zs)
+program-word c zero x y zs = program-none c zs
+program-word c (suc n) x y zs = ap (λ (r : List ℕ). programmed c x y ∷ r) (program-word c n x y zs)
 
-pub written-spread : (w k y : ℕ) (bs : List ℕ) → k < length bs
-    → writtenAt (k * w) (replicate w y) (spread w bs) ≡ spread w (set bs k (programmed (getD bs k 0) y))
+pub written-spread : (c : Cell) (w k y : ℕ) (bs : List ℕ) → k < length bs
+    → writtenAt c (k * w) (replicate w y) (spread w bs) ≡ spread w (set bs k (programmed c (getD bs k 0) y))
 unfolding spread writtenAt
-written-spread w k y [] h = absurd (not-suc-le-zero h)
-written-spread w zero y (x ∷ bs) h =
-    ap (λ (n : ℕ). take n (replicate w x ++ spread w bs) ++ program (drop n (replicate w x ++ spread w bs)) (replicate w y))
+written-spread c w k y [] h = absurd (not-suc-le-zero h)
+written-spread c w zero y (x ∷ bs) h =
+    ap (λ (n : ℕ). take n (replicate w x ++ spread w bs) ++ program c (drop n (replicate w x ++ spread w bs)) (replicate w y))
     (zero-mul w)
-    ∙ program-word w x y (spread w bs)
-written-spread w (suc k) y (x ∷ bs) h =
+    ∙ program-word c w x y (spread w bs)
+written-spread c w (suc k) y (x ∷ bs) h =
     let e : suc k * w ≡ length (replicate w x) + k * w = omega (arith, length-replicate w x) in
-    ap (λ (n : ℕ). take n (replicate w x ++ spread w bs) ++ program (drop n (replicate w x ++ spread w bs)) (replicate w y)) e
-    ∙ ap₂ (λ (l r : List ℕ). l ++ program r (replicate w y))
+    ap (λ (n : ℕ). take n (replicate w x ++ spread w bs) ++ program c (drop n (replicate w x ++ spread w bs)) (replicate w y)) e
+    ∙ ap₂ (λ (l r : List ℕ). l ++ program c r (replicate w y))
     (take-append-add (replicate w x) (spread w bs) (k * w))
     (drop-append-add (replicate w x) (spread w bs) (k * w))
-    ∙ append-assoc (replicate w x) (take (k * w) (spread w bs)) (program (drop (k * w) (spread w bs)) (replicate w y))
-    ∙ ap (λ (r : List ℕ). replicate w x ++ r) (written-spread w k y bs (le-of-suc-le-suc h))
+    ∙ append-assoc (replicate w x) (take (k * w) (spread w bs)) (program c (drop (k * w) (spread w bs)) (replicate w y))
+    ∙ ap (λ (r : List ℕ). replicate w x ++ r) (written-spread c w k y bs (le-of-suc-le-suc h))
 
 -- ---- what a word of one byte reads as
 
@@ -107,20 +111,13 @@ holds-other zero b x d = refl
 holds-other (suc n) b x d = rw (ne-eqb x b d) (holds-other n b x d)
 
 -- an erased byte is no magic, so an erased word reads Boot
-erased-no-magic : (s : State) → erased ≢ magic s
-unfolding erased magic
-erased-no-magic Boot e = omega arith
-erased-no-magic Swap e = omega arith
-erased-no-magic Revert e = omega arith
-erased-no-magic DfuDetach e = omega arith
-
-pub erased-reads-boot : (w : ℕ) → 0 < w → stateOf (replicate w erased) ≡ Boot
+pub erased-reads-boot : (c : Cell) (w : ℕ) → 0 < w → stateOf (replicate w (erased c)) ≡ Boot
 unfolding stateOf pick
-erased-reads-boot w h =
+erased-reads-boot c w h =
     rw (no-magic Swap, no-magic Revert, no-magic DfuDetach)
   where
-    no-magic : (s : State) → throughout (magic s) (replicate w erased) ≡ false
-    no-magic s = throughout-other w (magic s) erased h (erased-no-magic s)
+    no-magic : (s : State) → throughout (magic s) (replicate w (erased c)) ≡ false
+    no-magic s = throughout-other w (magic s) (erased c) h (erased-no-magic c s)
 
 -- and a word of the Revert magic reads Revert, one of the Boot magic Boot
 revert-no-swap : magic Revert ≢ magic Swap
@@ -148,23 +145,23 @@ boot-reads w h =
 pub area-reads : (s : State) (z : StateSizes) (n : ℕ) → stateOf (replicate (z .ws) (magic s)) ≡ s → readState z (magicArea z s n) ≡ s
 unfolding readState word magicArea
 area-reads s z n e =
-    ap (λ (i : ℕ). stateOf (take (z .ws) (drop i (replicate (z .ws) (magic s) ++ replicate (n - z .ws) erased)))) (zero-mul (z .ws))
-    ∙ ap stateOf (take-at (replicate (z .ws) (magic s)) (replicate (n - z .ws) erased) (z .ws) (length-replicate (z .ws) (magic s))) ∙ e
+    ap (λ (i : ℕ). stateOf (take (z .ws) (drop i (replicate (z .ws) (magic s) ++ replicate (n - z .ws) (erased (cell z)))))) (zero-mul (z .ws))
+    ∙ ap stateOf (take-at (replicate (z .ws) (magic s)) (replicate (n - z .ws) (erased (cell z))) (z .ws) (length-replicate (z .ws) (magic s))) ∙ e
 
 -- a state area whose first word is erased reads Boot
-pub blank-boot : (z : StateSizes) (n : ℕ) (st : List ℕ) → 0 < (z .ws) → (z .ws) ≤ n → n ≤ length st → readState z (blank n st) ≡ Boot
+pub blank-boot : (z : StateSizes) (n : ℕ) (st : List ℕ) → 0 < (z .ws) → (z .ws) ≤ n → n ≤ length st → readState z (blank (cell z) n st) ≡ Boot
 unfolding readState word
 blank-boot z n st some more fit =
     let r : ℕ = n - (z .ws) in
     let e : n ≡ z .ws + r = omega arith in
     ap stateOf
     (ap₂ (λ (i : ℕ) (xs : List ℕ). take (z .ws) (drop i xs)) (zero-mul (z .ws))
-    (blank-is n st fit
+    (blank-is (cell z) n st fit
     ∙ ap (λ (l : List ℕ). l ++ drop n st)
-    (ap (λ (o : ℕ). replicate o erased) e ∙ sym (replicate-append-replicate (z .ws) r erased))
-    ∙ append-assoc (replicate (z .ws) erased) (replicate r erased) (drop n st))
-    ∙ take-at (replicate (z .ws) erased) (replicate r erased ++ drop n st) (z .ws) (length-replicate (z .ws) erased))
-    ∙ erased-reads-boot (z .ws) some
+    (ap (λ (o : ℕ). replicate o (erased (cell z))) e ∙ sym (replicate-append-replicate (z .ws) r (erased (cell z))))
+    ∙ append-assoc (replicate (z .ws) (erased (cell z))) (replicate r (erased (cell z))) (drop n st))
+    ∙ take-at (replicate (z .ws) (erased (cell z))) (replicate r (erased (cell z)) ++ drop n st) (z .ws) (length-replicate (z .ws) (erased (cell z))))
+    ∙ erased-reads-boot (cell z) (z .ws) some
 
 -- every magic is a byte
 pub magic-byte : (s : State) → magic s < 256

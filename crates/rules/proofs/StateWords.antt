@@ -9,8 +9,10 @@ use native.Mathlib.Omega.{arith}
 use lib.Dec.{eqb}
 use borrow.Author.Tests.{eq-eqb}
 use Rattle.state.specs.Choice.{pick}
-use Rattle.state.specs.Magic.{erased, holds}
+use Rattle.state.specs.Cells.{erased}
+use Rattle.state.specs.Magic.{holds}
 use Rattle.geometry.specs.declared.StateSizes.{StateSizes}
+use Rattle.geometry.specs.Geometry.{cell}
 use Rattle.rules.specs.StateArea.{word, valid, markOpen, mostMarks, firstOpen, marksDone, progress}
 
 -- ---- a mark
@@ -26,9 +28,9 @@ holds-within v [] ys = rw (eq-eqb v v refl)
 holds-within v (x ∷ xs) ys = rw (holds-within v xs ys) (pick-true (eqb x v))
 
 -- one erased byte, wherever it stands, keeps a mark open: 00 FF 00 00 is not done
-pub mark-open : (z : StateSizes) (i : ℕ) (st xs ys : List ℕ) → word z (2 + i) st ≡ xs ++ (erased ∷ ys) → markOpen z st i ≡ true
+pub mark-open : (z : StateSizes) (i : ℕ) (st xs ys : List ℕ) → word z (2 + i) st ≡ xs ++ ((erased (cell z)) ∷ ys) → markOpen z st i ≡ true
 unfolding markOpen
-mark-open z i st xs ys e = ap (holds erased) e ∙ holds-within erased xs ys
+mark-open z i st xs ys e = ap (holds (erased (cell z))) e ∙ holds-within (erased (cell z)) xs ys
 
 -- ---- the progress
 

@@ -11,6 +11,7 @@ use Rattle.state.specs.Choice.{pick}
 use Rattle.state.specs.Magic.{magic}
 use Rattle.geometry.specs.declared.StateSizes.{StateSizes}
 use Rattle.geometry.specs.declared.Geometry.{Geometry}
+use Rattle.geometry.specs.Geometry.{cell}
 use Rattle.geometry.specs.Refusals.{bootRefusal, stateRefusal}
 use Rattle.mem_flash.specs.Flash.{state, Flash, Op, eraseOps}
 use Rattle.rules.specs.StateArea.{readState, valid, marksDone, progress, invalidateOp, magicOp}
@@ -21,7 +22,7 @@ use Rattle.rules.specs.declared.Task.the-variants as tasks
 
 -- the whole state area, of n bytes, erased and a magic written
 unfoldable pub renewOps : StateSizes → ℕ → ℕ → List Op
-renewOps z n m = eraseOps (z .es) state 0 n ++ (magicOp z m ∷ [])
+renewOps z n m = eraseOps (cell z) (z .es) state 0 n ++ (magicOp z m ∷ [])
 
 -- after the revert's steps: invalidate, erase the whole state area, write the Revert magic
 unfoldable pub finishOps : Geometry → Flash → List Op

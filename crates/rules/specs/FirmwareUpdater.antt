@@ -5,12 +5,14 @@ use mathlib.Core.List.{List, [], _∷_, _++_}
 use Prim.Native.Nat.{ℕ, zero, suc, _+_, _-_, _*_, _/_, _%_}
 use lib.Dec.{ltb, eqb}
 use lib.ListN.{length, take, drop}
+use Rattle.state.specs.declared.Cell.{Cell}
 use Rattle.state.specs.declared.State.{State}
 use Rattle.state.specs.declared.State.the-variants.{Boot, Swap, Revert, DfuDetach}
 use Rattle.state.specs.Choice.{pick}
 use Rattle.state.specs.Magic.{magic}
 use Rattle.geometry.specs.declared.StateSizes.{StateSizes}
 use Rattle.geometry.specs.declared.Sizes.{Sizes}
+use Rattle.geometry.specs.Geometry.{cell}
 use Rattle.geometry.specs.Refusals.{any, uneven, updaterRefusal}
 use Rattle.mem_flash.specs.Flash.{dfu, Flash, Op, erase, write, eraseOps}
 use Rattle.rules.specs.declared.Sector.{Sector}
@@ -47,16 +49,16 @@ remembers None s = false
 remembers (At t) s = eqb t s
 
 -- each piece: its sector, which is one unit, erased unless it is the one last erased, and remembered; the piece written
-unfoldable pub piecesOps : ℕ → Sector → List Piece → List Op
-piecesOps ed m [] = []
-piecesOps ed m (p ∷ ps) =
-    pick (remembers m (p .at / ed)) [] (erase dfu (p .at / ed * ed) ed ∷ [])
-    ++ (write dfu (p .at) (p .bytes) ∷ piecesOps ed (At (p .at / ed)) ps)
+unfoldable pub piecesOps : Cell → ℕ → Sector → List Piece → List Op
+piecesOps c ed m [] = []
+piecesOps c ed m (p ∷ ps) =
+    pick (remembers m (p .at / ed)) [] (erase c dfu (p .at / ed * ed) ed ∷ [])
+    ++ (write c dfu (p .at) (p .bytes) ∷ piecesOps c ed (At (p .at / ed)) ps)
 
 -- the memory after operations: set once an erase is done, and by nothing else
 unfoldable pub rememberedOp : ℕ → Op → Sector → Sector
-rememberedOp ed (erase a from n) m = At (from / ed)
-rememberedOp ed (write a at bs) m = m
+rememberedOp ed (erase c a from n) m = At (from / ed)
+rememberedOp ed (write c a at bs) m = m
 
 unfoldable pub remembered : ℕ → List Op → Sector → Sector
 remembered ed [] m = m
@@ -127,7 +129,7 @@ writeFirmware z m offset bytes f =
     (pending (z .state) (f .state))
     (badRange (z .wd) (length (f .dfu)) offset (length bytes))
     none
-    (piecesOps (z .ed) m (pieces (z .ed) offset bytes))
+    (piecesOps (cell (z .state)) (z .ed) m (pieces (z .ed) offset bytes))
 
 -- the memory after write_firmware with a budget of k
 unfoldable pub memory : ℕ → Sizes → Sector → ℕ → List ℕ → Flash → Sector
@@ -139,4 +141,4 @@ memory k z m offset bytes f =
 -- prepare_update: all of DFU erased; the memory stays as it is
 unfoldable pub prepareUpdate : Sizes → Flash → Call
 prepareUpdate z f =
-    updaterCall z f (pending (z .state) (f .state)) false none (eraseOps (z .ed) dfu 0 (length (f .dfu)))
+    updaterCall z f (pending (z .state) (f .state)) false none (eraseOps (cell (z .state)) (z .ed) dfu 0 (length (f .dfu)))

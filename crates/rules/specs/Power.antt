@@ -8,17 +8,18 @@ use lib.ListN.{length, take, drop, replicate}
 use Rattle.state.specs.declared.State.{State}
 use Rattle.state.specs.declared.State.the-variants.{Swap, Revert}
 use Rattle.state.specs.Choice.{pick}
-use Rattle.state.specs.Magic.{erased, marked, magic}
+use Rattle.state.specs.Cells.{erased, marked}
+use Rattle.state.specs.Magic.{magic}
 use Rattle.geometry.specs.declared.StateSizes.{StateSizes}
 use Rattle.geometry.specs.declared.Geometry.{Geometry}
-use Rattle.geometry.specs.Geometry.{page}
+use Rattle.geometry.specs.Geometry.{cell, page}
 use Rattle.mem_flash.specs.Flash.{Area, active, dfu, Flash, blank}
 use Rattle.rules.specs.StateArea.{progress}
 use Rattle.rules.specs.Steps.{pageCount, unitOf}
 
 -- a state area of n bytes: a magic in every byte of word 0, every other byte erased
 unfoldable pub magicArea : StateSizes → State → ℕ → List ℕ
-magicArea z s n = replicate (z .ws) (magic s) ++ replicate (n - z .ws) erased
+magicArea z s n = replicate (z .ws) (magic s) ++ replicate (n - z .ws) (erased (cell z))
 
 -- freshly marked for an update
 unfoldable pub Fresh : Geometry → Flash → Type 0
@@ -28,8 +29,8 @@ Fresh g f = f .state ≡ magicArea (g .state) Swap (length (f .state))
 unfoldable pub swapMarks : StateSizes → ℕ → ℕ → List ℕ
 swapMarks z count n =
     replicate (z .ws) (magic Swap)
-    ++ (replicate (z .ws) erased
-    ++ (replicate (2 * count * z .ws) marked ++ replicate (n - (2 + 2 * count) * z .ws) erased))
+    ++ (replicate (z .ws) (erased (cell z))
+    ++ (replicate (2 * count * z .ws) (marked (cell z)) ++ replicate (n - (2 + 2 * count) * z .ws) (erased (cell z))))
 
 -- the swap table: active page k holds the old DFU page k, DFU page k + 1 the old active page k, the rest of DFU is as it was
 unfoldable pub swapTable : Geometry → Flash → Flash
@@ -63,12 +64,13 @@ reverted g f = revertImages g (magicArea (g .state) Revert (length (f .state))) 
 
 -- or all erased, where a cut fell after the state's erase
 unfoldable pub revertedErased : Geometry → Flash → Flash
-revertedErased g f = revertImages g (replicate (length (f .state)) erased) f
+revertedErased g f = revertImages g (replicate (length (f .state)) (erased (cell (g .state)))) f
 
 -- a state area of n bytes with m marks done whose progress does not count
 unfoldable pub voidMarks : StateSizes → ℕ → ℕ → List ℕ
 voidMarks z m n =
-    replicate (z .ws) (magic Swap) ++ (replicate ((1 + m) * z .ws) marked ++ replicate (n - (2 + m) * z .ws) erased)
+    replicate (z .ws) (magic Swap)
+    ++ (replicate ((1 + m) * z .ws) (marked (cell z)) ++ replicate (n - (2 + m) * z .ws) (erased (cell z)))
 
 -- what the revert of `count` pages begins to erase: invalid, every mark of swap and revert done
 unfoldable pub revertMarks : StateSizes → ℕ → ℕ → List ℕ
@@ -77,7 +79,7 @@ revertMarks z count n = voidMarks z (4 * count) n
 -- or, where a cut fell inside the state's erase, its first units erased and the rest as they were
 unfoldable pub revertedPart : Geometry → ℕ → Flash → Flash
 revertedPart g units f =
-    revertImages g (blank (units * g .state .es) (revertMarks (g .state) (pageCount g f) (length (f .state)))) f
+    revertImages g (blank (cell (g .state)) (units * g .state .es) (revertMarks (g .state) (pageCount g f) (length (f .state)))) f
 
 -- the erase units of the state area
 unfoldable pub stateUnits : Geometry → Flash → ℕ

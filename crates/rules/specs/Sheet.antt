@@ -60,9 +60,9 @@ unfoldable pub filled : List ℕ → List ℕ
 filled [] = []
 filled (x ∷ xs) = x ∷ x ∷ x ∷ x ∷ filled xs
 
--- erase 4, 4, es; write 2, 2, 1; b = 2
+-- erase 4, 4, es; write 2, 2, 1; b = 2; an erased byte is 255
 unfoldable pub sizes : ℕ → Geometry
-sizes es = record { ea = 4; wa = 2; ed = 4; wd = 2; state = record { es = es; ws = 1 }; b = 2 }
+sizes es = record { ea = 4; wa = 2; ed = 4; wd = 2; state = record { es = es; ws = 1; ev = 255 }; b = 2 }
 
 -- FF n times
 unfoldable pub ff : ℕ → List ℕ

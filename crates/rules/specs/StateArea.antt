@@ -5,9 +5,10 @@ use Prim.Native.Nat.{ℕ, zero, suc, _+_, _-_, _*_}
 use lib.ListN.{length, take, drop, replicate}
 use Rattle.state.specs.declared.State.{State}
 use Rattle.state.specs.Choice.{pick}
-use Rattle.state.specs.Magic.{erased, marked, throughout, holds, stateOf}
+use Rattle.state.specs.Cells.{erased, marked}
+use Rattle.state.specs.Magic.{throughout, holds, stateOf}
 use Rattle.geometry.specs.declared.StateSizes.{StateSizes}
-use Rattle.geometry.specs.Geometry.{words}
+use Rattle.geometry.specs.Geometry.{cell, words}
 use Rattle.mem_flash.specs.Flash.{state, Op, write}
 
 -- word i
@@ -20,11 +21,11 @@ readState z st = stateOf (word z 0 st)
 
 -- word 1 is the validity: the progress counts while every byte of it is erased
 unfoldable pub valid : StateSizes → List ℕ → Bool
-valid z st = throughout erased (word z 1 st)
+valid z st = throughout (erased (cell z)) (word z 1 st)
 
 -- word 2 + i is the mark of step i: open while it holds an erased byte
 unfoldable pub markOpen : StateSizes → List ℕ → ℕ → Bool
-markOpen z st i = holds erased (word z (2 + i) st)
+markOpen z st i = holds (erased (cell z)) (word z (2 + i) st)
 
 -- m = T - 3: so many marks are read
 unfoldable pub mostMarks : StateSizes → List ℕ → ℕ
@@ -45,11 +46,11 @@ progress z st = pick (valid z st) (marksDone z st) (mostMarks z st)
 
 -- the mark of step i is written over its whole word, and so is the invalidation
 unfoldable pub markOp : StateSizes → ℕ → Op
-markOp z i = write state ((2 + i) * z .ws) (replicate (z .ws) marked)
+markOp z i = write (cell z) state ((2 + i) * z .ws) (replicate (z .ws) (marked (cell z)))
 
 unfoldable pub invalidateOp : StateSizes → Op
-invalidateOp z = write state (z .ws) (replicate (z .ws) marked)
+invalidateOp z = write (cell z) state (z .ws) (replicate (z .ws) (marked (cell z)))
 
 -- the word 0 written with a magic
 unfoldable pub magicOp : StateSizes → ℕ → Op
-magicOp z m = write state 0 (replicate (z .ws) m)
+magicOp z m = write (cell z) state 0 (replicate (z .ws) m)

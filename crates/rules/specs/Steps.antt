@@ -3,9 +3,10 @@ use mathlib.Core.List.{List, [], _∷_, _++_}
 use Prim.Native.Nat.{ℕ, zero, suc, _+_, _*_, _/_}
 use lib.Dec.{leb}
 use lib.ListN.{length, getD, take, drop}
+use Rattle.state.specs.declared.Cell.{Cell}
 use Rattle.state.specs.Choice.{pick}
 use Rattle.geometry.specs.declared.Geometry.{Geometry}
-use Rattle.geometry.specs.Geometry.{page, pages}
+use Rattle.geometry.specs.Geometry.{cell, page, pages}
 use Rattle.mem_flash.specs.Flash.{Area, active, dfu, state, Flash, Op, write, applyAll, eraseOps}
 use Rattle.rules.specs.StateArea.{progress, markOp}
 
@@ -59,18 +60,20 @@ unitOf g dfu = g .ed
 unitOf g state = g .state .es
 
 -- n chunks of b bytes each, in rising order
-unfoldable pub chunkOps : ℕ → Area → ℕ → ℕ → ℕ → List ℕ → List Op
-chunkOps zero a at from b source = []
-chunkOps (suc n) a at from b source = write a at (take b (drop from source)) ∷ chunkOps n a (at + b) (from + b) b source
+unfoldable pub chunkOps : Cell → ℕ → Area → ℕ → ℕ → ℕ → List ℕ → List Op
+chunkOps c zero a at from b source = []
+chunkOps c (suc n) a at from b source =
+    write c a at (take b (drop from source)) ∷ chunkOps c n a (at + b) (from + b) b source
 
 -- a page of p bytes filled: erased, then written in chunks
-unfoldable pub fillOps : ℕ → ℕ → ℕ → ℕ → ℕ → List ℕ → Area → List Op
-fillOps unit p b at from source a = eraseOps unit a at p ++ chunkOps (p / b) a at from b source
+unfoldable pub fillOps : Cell → ℕ → ℕ → ℕ → ℕ → ℕ → List ℕ → Area → List Op
+fillOps c unit p b at from source a = eraseOps c unit a at p ++ chunkOps c (p / b) a at from b source
 
 -- one copy: the page filled, the step marked
 unfoldable pub copyOps : Geometry → Copy → Flash → List Op
 copyOps g c f =
     fillOps
+    (cell (g .state))
     (unitOf g (c .to))
     (page g)
     (g .b)

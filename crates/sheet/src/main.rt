@@ -19,7 +19,7 @@ type Marks = [u8; 16];
 
 // Words of one byte, in erase units of es bytes.
 fn state_sizes(es: u32) -> StateSizes {
-    StateSizes { es, ws: 1 }
+    StateSizes { es, ws: 1, ev: 255 }
 }
 
 // Erase 4, 4, es; write 2, 2, 1; b = 2.
@@ -483,7 +483,11 @@ fn wide() -> BootLoader {
         wa: 2,
         ed: 4,
         wd: 2,
-        state: StateSizes { es: 28, ws: 4 },
+        state: StateSizes {
+            es: 28,
+            ws: 4,
+            ev: 255,
+        },
         b: 4,
     })
 }

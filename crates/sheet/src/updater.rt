@@ -28,7 +28,11 @@ fn marks() -> u32 {
 }
 
 fn mark(state: &mut Marks) -> Answer {
-    BlockingFirmwareState::new(StateSizes { es: 16, ws: 1 }).mark_updated(state, 3)
+    BlockingFirmwareState::new(StateSizes {
+        es: 16,
+        ws: 1,
+        ev: 255,
+    }).mark_updated(state, 3)
 }
 
 fn marked(label: &[u8], answer: Answer, expected: Expected, state: &Marks) -> u32 {
@@ -50,7 +54,11 @@ fn writes() -> u32 {
     let sizes = Sizes {
         ed: 4,
         wd: 2,
-        state: StateSizes { es: 16, ws: 1 },
+        state: StateSizes {
+            es: 16,
+            ws: 1,
+            ev: 255,
+        },
     };
     let first = write(
         BlockingFirmwareUpdater::new(sizes),

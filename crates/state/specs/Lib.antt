@@ -1,3 +1,4 @@
+pub mod Cells
 pub mod Choice
 pub mod Magic
 pub mod OneResult

@@ -7,14 +7,6 @@ use Rattle.state.specs.declared.State.{State}
 use Rattle.state.specs.declared.State.the-variants.{Boot, Swap, Revert, DfuDetach}
 use Rattle.state.specs.Choice.{pick}
 
--- what a byte holds after an erase
-unfoldable pub erased : ℕ
-erased = 0xFF
-
--- what marks and the invalidation write
-unfoldable pub marked : ℕ
-marked = 0x00
-
 -- the byte of which a state's word is made
 unfoldable pub magic : State → ℕ
 magic Boot = 0xD0

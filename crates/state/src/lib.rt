@@ -1,6 +1,7 @@
 // The boot state and the bytes that stand for it in flash: lib.rs of the crate.
 ghost use mathlib.Core.Path.{_≡_};
 ghost use mathlib.Core.List.{[], _∷_};
+ghost use Rattle.state.specs.Cells.{erased, marked};
 ghost use Rattle.state.specs.Magic.{magic, stateOf};
 
 pub mod word;
@@ -17,6 +18,34 @@ pub enum State {
     DfuDetach,
 }
 
+// The cells of which a flash is made, by how an erased one reads: ones, which a write turns to zeros, or the other way round.
+pub enum Cell {
+    High,
+    Low,
+}
+
+impl Cell {
+    // What a byte of the flash holds after an erase.
+    pub fn erased(self) -> u8
+        ensures { λ r. ⌜ r ≡ erased self ⌝ }
+    {
+        match self {
+            Cell::High => State::ERASE_VALUE,
+            Cell::Low => !State::ERASE_VALUE,
+        }
+    }
+
+    // What a mark and the invalidation write: no bit as an erase leaves it.
+    pub fn marked(self) -> u8
+        ensures { λ r. ⌜ r ≡ marked self ⌝ }
+    {
+        match self {
+            Cell::High => !State::ERASE_VALUE,
+            Cell::Low => State::ERASE_VALUE,
+        }
+    }
+}
+
 impl State {
     pub const REVERT_MAGIC: u8 = 0xC0;
 
@@ -26,11 +55,8 @@ impl State {
 
     pub const DFU_DETACH_MAGIC: u8 = 0xE0;
 
-    // What a byte of the flash holds after an erase.
+    // What a byte holds after an erase in the Rust's default build; its switch for flash that erases to zero is a cell here.
     pub const ERASE_VALUE: u8 = 0xFF;
-
-    // What a mark and the invalidation write: no bit as an erase leaves it.
-    pub const MARK_VALUE: u8 = !State::ERASE_VALUE;
 
     // The byte of which this state's word is made.
     pub fn magic(self) -> u8

@@ -1,6 +1,6 @@
 -- The first open mark, found by bytes: the first erased byte among the marks stands in it. Assumes nothing.
 use mathlib.Core.Path.{_≡_, ap, _∙_, sym}
-use mathlib.Core.Bool.{true, false}
+use mathlib.Core.Bool.{Bool, true, false}
 use mathlib.Core.List.{List}
 use Prim.Native.Nat.{ℕ, zero, suc, _+_, _-_, _*_, _/_, _%_, _≤_, _<_}
 use native.Mathlib.Nat.{sub-zero, div-zero, div-mul-le-self, mul-le-mul-right, le-mul-of-pos-right, le-div-iff-mul-le, div-lt-iff-lt-mul, div-add-mod', mod-lt}
@@ -8,13 +8,25 @@ use native.Mathlib.Decide.{decLt}
 use native.Mathlib.Omega.{arith}
 use lib.ListN.{length, getD, take, drop, length-take, length-drop}
 use lib.Seq.{getD-take, getD-drop}
-use Rattle.state.specs.Magic.{erased}
+use Rattle.state.specs.declared.Cell.{Cell}
+use Rattle.state.specs.Cells.{erased}
+use Rattle.state.specs.Magic.{throughout}
 use Rattle.geometry.specs.declared.StateSizes.{StateSizes}
-use Rattle.geometry.specs.Geometry.{words}
+use Rattle.geometry.specs.Geometry.{cell, words}
 use Rattle.rules.specs.StateArea.{word, valid, markOpen, mostMarks, firstOpen, marksDone, progress}
 use Rattle.rules.proofs.StateWords.{open-here, open-turn, open-end, progress-invalid}
 use Rattle.byte_search.specs.First.{First}
 use Rattle.byte_search.proofs.Places.{holds-at, holds-not}
+
+-- ---- the erased byte, as the code asks the sizes for it
+
+module _ (z : StateSizes) {c : Cell} {v : ℕ} (h : c ≡ cell z) (e : v ≡ erased c) where
+  pub is-erased : v ≡ erased (cell z)
+  is-erased = e ∙ ap erased h
+
+  pub is-valid : (st : List ℕ) {b : Bool} → b ≡ throughout v (word z 1 st) → b ≡ valid z st
+  unfolding valid
+  is-valid st w = rw is-erased at w
 
 -- ---- how many marks are read
 
@@ -106,7 +118,7 @@ module _ (z : StateSizes) (from most : ℕ) (st : List ℕ) (w : 0 < z .ws) (som
       span : (d : ℕ) → most ≡ from + d → (2 + most) * z .ws ≡ (2 + from) * z .ws + d * z .ws
       span d e = rw e (omega arith)
 
-  module _ (p : ℕ) (f : First erased (marks (z .ws) from most st) p) where
+  module _ (p : ℕ) (f : First (erased (cell z)) (marks (z .ws) from most st) p) where
     last : from + p / z .ws ≤ most
     last =
         let q : p / z .ws < most - from + 1 = div-lt-iff-lt-mul w .1 (omega (arith, f .within, all)) in
@@ -118,7 +130,7 @@ module _ (z : StateSizes) (from most : ℕ) (st : List ℕ) (w : 0 < z .ws) (som
     done k h =
         let m : (k + 1) * z .ws ≤ p = le-div-iff-mul-le w .0 (omega arith) in
         let n : from + k < most = omega (arith, last) in
-        holds-not erased (word z (2 + (from + k)) st) (λ j l e.
+        holds-not (erased (cell z)) (word z (2 + (from + k)) st) (λ j l e.
         let a : j < z .ws = omega (arith, whole k n) in
         f .before (k * z .ws + j) (omega arith) (sym (byte k n j a) ∙ e))
 
@@ -129,7 +141,7 @@ module _ (z : StateSizes) (from most : ℕ) (st : List ℕ) (w : 0 < z .ws) (som
         let j : p % z .ws < z .ws = mod-lt p w in
         let e : p / z .ws * z .ws + p % z .ws ≡ p = div-add-mod' p (z .ws) in
         let l : p < (most - from) * z .ws = div-lt-iff-lt-mul w .0 (omega arith) in
-        holds-at erased (word z (2 + (from + p / z .ws)) st) (p % z .ws) (omega (arith, whole (p / z .ws) h))
+        holds-at (erased (cell z)) (word z (2 + (from + p / z .ws)) st) (p % z .ws) (omega (arith, whole (p / z .ws) h))
         (byte (p / z .ws) h (p % z .ws) j ∙ ap (λ (k : ℕ). getD (marks (z .ws) from most st) k 0) e ∙ f .found (omega (arith, all)))
 
     pub by-bytes : from + p / z .ws ≡ firstOpen z st (most - from) from
@@ -148,23 +160,23 @@ module _ (z : StateSizes) (most : ℕ) (st : List ℕ) (m : most ≡ words (z .w
   counted = m
 
   module _ (from : ℕ) (h : (0 < z .ws) × ((3 + from) * z .ws ≤ length st)) where
-    pub found-at : (p : ℕ) → First erased (marks (z .ws) from most st) p → from + p / z .ws ≡ firstOpen z st (mostMarks z st - from) from
-    found-at p f =
+    pub found-at : {v : ℕ} (p : ℕ) → v ≡ erased (cell z) → First v (marks (z .ws) from most st) p → from + p / z .ws ≡ firstOpen z st (mostMarks z st - from) from
+    found-at p q f =
         let i = marks-fit (z .ws) (length st) most from m h in
-        by-bytes z from most st (h .0) (i .0) (i .1) p f ∙ ap (λ (n : ℕ). firstOpen z st (n - from) from) counted
+        by-bytes z from most st (h .0) (i .0) (i .1) p (rw q at f) ∙ ap (λ (n : ℕ). firstOpen z st (n - from) from) counted
 
-    pub found-low : (p : ℕ) → First erased (marks (z .ws) from most st) p → from + p / z .ws ≤ most
-    found-low p f = let i = marks-fit (z .ws) (length st) most from m h in last z from most st (h .0) (i .0) (i .1) p f
+    pub found-low : {v : ℕ} (p : ℕ) → v ≡ erased (cell z) → First v (marks (z .ws) from most st) p → from + p / z .ws ≤ most
+    found-low p q f = let i = marks-fit (z .ws) (length st) most from m h in last z from most st (h .0) (i .0) (i .1) p (rw q at f)
 
     -- an erased byte in front: the mark is open, or is not read
-    pub found-first : getD st ((2 + from) * z .ws) 0 ≡ erased → from ≡ firstOpen z st (mostMarks z st - from) from
+    pub found-first : getD st ((2 + from) * z .ws) 0 ≡ (erased (cell z)) → from ≡ firstOpen z st (mostMarks z st - from) from
     unfolding markOpen word
     found-first e = go (decLt from (mostMarks z st))
       where
         is-open : markOpen z st from ≡ true
         is-open =
             let a : (2 + from) * z .ws + 0 ≡ (2 + from) * z .ws = omega arith in
-            holds-at erased (take (z .ws) (drop ((2 + from) * z .ws) st)) 0 (simp (length-take, length-drop) (omega (arith, h)))
+            holds-at (erased (cell z)) (take (z .ws) (drop ((2 + from) * z .ws) st)) 0 (simp (length-take, length-drop) (omega (arith, h)))
             (getD-take (z .ws) (drop ((2 + from) * z .ws) st) 0 0 (h .0) ∙ getD-drop ((2 + from) * z .ws) st 0 0 ∙ ap (λ (k : ℕ). getD st k 0) a ∙ e)
 
         go : Dec (from < mostMarks z st) → from ≡ firstOpen z st (mostMarks z st - from) from

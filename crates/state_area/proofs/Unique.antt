@@ -12,6 +12,8 @@ use Rattle.state_area.proofs.is_valid.Kinds as is-valid-kinds
 use Rattle.state_area.proofs.is_valid.Reads as is-valid
 use Rattle.state_area.proofs.most_marks.Kinds as most-marks-kinds
 use Rattle.state_area.proofs.most_marks.Reads as most-marks
+use Rattle.state_area.proofs.first_open.Kinds as first-open-kinds
+use Rattle.state_area.proofs.first_open.Reads as first-open
 use Rattle.state_area.proofs.marks_done.Kinds as marks-done-kinds
 use Rattle.state_area.proofs.marks_done.Reads as marks-done
 use Rattle.state_area.proofs.progress.Kinds as progress-kinds
@@ -32,6 +34,9 @@ is-valid-unique κs a x y v w p q = (p ∙ sym q, refl)
 
 pub most-marks-unique : OneResult most-marks-kinds.ps most-marks-kinds.r most-marks.Post
 most-marks-unique κs a x y v w p q = (p ∙ sym q, refl)
+
+pub first-open-unique : OneResult first-open-kinds.ps first-open-kinds.r first-open.Post
+first-open-unique κs a x y v w p q = (p ∙ sym q, refl)
 
 pub marks-done-unique : OneResult marks-done-kinds.ps marks-done-kinds.r marks-done.Post
 marks-done-unique κs a x y v w p q = (p ∙ sym q, refl)

@@ -63,7 +63,7 @@ pub fn read(state: &[u8], z: StateSizes) -> State
 pub fn is_valid(state: &[u8], z: StateSizes) -> bool
     ensures { λ r. ⌜ r ≡ valid z (now (state .entry)) ⌝ }
 {
-    word_is(state, VALIDITY, z, State::ERASE_VALUE)
+    word_is(state, VALIDITY, z, z.cell().erased())
 }
 
 // How many marks are read: three fewer than there are words.
@@ -87,12 +87,13 @@ pub fn first_open(state: &[u8], z: StateSizes, from: usize) -> usize
 {
     let ws = z.ws as usize;
     let start = (2 + from) * ws;
+    let erased = z.cell().erased();
     // Where the mark itself is open there is nothing to search.
-    if state[start] == State::ERASE_VALUE {
+    if state[start] == erased {
         return from;
     }
     let end = (2 + most_marks(state.len(), z)) * ws;
-    from + byte_search::first(&state[start..end], State::ERASE_VALUE) / ws
+    from + byte_search::first(&state[start..end], erased) / ws
 }
 
 // The leading done marks, whether they count or not.
@@ -124,18 +125,21 @@ pub fn progress(state: &[u8], z: StateSizes) -> usize
 pub fn invalidate(state: &mut [u8], z: StateSizes, left: Budget) -> Flow
     ensures { λ r. ⌜ Invalidated (left .0) z (now (state .entry)) (now (state .exit)) r ⌝ }
 {
+    let cell = z.cell();
     let at = word_offset(VALIDITY, z);
-    mem_flash::write_word(state, at, State::MARK_VALUE, z.ws as usize, left)
+    mem_flash::write_word(state, at, cell.marked(), z.ws as usize, cell, left)
 }
 
 // Erases the whole area, magic and progress, and writes a magic.
 pub fn renew(state: &mut [u8], z: StateSizes, magic: u8, left: Budget) -> Flow
     ensures { λ r. ⌜ Renewed (left .0) z magic (now (state .entry)) (now (state .exit)) r ⌝ }
 {
+    let cell = z.cell();
     let n = state.len();
-    let Flow::On(rest) = mem_flash::erase(state, Offset(0), Offset(n), z.es as usize, left) else {
+    let Flow::On(rest) = mem_flash::erase(state, Offset(0), Offset(n), z.es as usize, cell, left)
+    else {
         return Flow::Cut;
     };
     let at = word_offset(MAGIC, z);
-    mem_flash::write_word(state, at, magic, z.ws as usize, rest)
+    mem_flash::write_word(state, at, magic, z.ws as usize, cell, rest)
 }

@@ -16,6 +16,8 @@ use Rattle.verdicts.proofs.check.last.Kinds as last-kinds
 use Rattle.verdicts.proofs.check.last.Reads as last
 use Rattle.verdicts.proofs.check.bad_number.Kinds as bad-number-kinds
 use Rattle.verdicts.proofs.check.bad_number.Reads as bad-number
+use Rattle.verdicts.proofs.check.bad_value.Kinds as bad-value-kinds
+use Rattle.verdicts.proofs.check.bad_value.Reads as bad-value
 use Rattle.verdicts.proofs.check.too_long.Kinds as too-long-kinds
 use Rattle.verdicts.proofs.check.too_long.Reads as too-long
 use Rattle.verdicts.proofs.check.uneven.Kinds as uneven-kinds
@@ -56,6 +58,9 @@ last-unique κs a x y v w p q = (p _ refl ∙ sym (q _ refl), refl)
 -- the rows
 pub bad-number-unique : OneResult bad-number-kinds.ps bad-number-kinds.r bad-number.Post
 bad-number-unique κs a x y v w p q = (p ∙ sym q, refl)
+
+pub bad-value-unique : OneResult bad-value-kinds.ps bad-value-kinds.r bad-value.Post
+bad-value-unique κs a x y v w p q = (p ∙ sym q, refl)
 
 pub too-long-unique : OneResult too-long-kinds.ps too-long-kinds.r too-long.Post
 too-long-unique κs a x y v w p q = (p ∙ sym q, refl)

@@ -6,7 +6,7 @@ ghost use mathlib.Core.List.{List, [], _∷_, _++_, map};
 ghost use Prim.Native.Nat.{_<_, _≤_};
 ghost use Rattle.geometry.specs.Geometry.{pages};
 ghost use Rattle.geometry.specs.Admitted.{Numbers};
-ghost use Rattle.geometry.specs.Refusals.{any, badNumber, tooLong, uneven, outside, unevenPage, unevenAreas, badState, bootWords, stateNumbers, bootNumbers, updaterNumbers, mostLength};
+ghost use Rattle.geometry.specs.Refusals.{any, badNumber, badValue, tooLong, uneven, outside, unevenPage, unevenAreas, badState, bootWords, stateNumbers, bootNumbers, updaterNumbers, mostLength};
 use geometry::Geometry;
 use geometry::Sizes;
 use geometry::StateSizes;
@@ -31,6 +31,14 @@ pub(crate) fn bad_number(n: u32) -> bool
     or(n == 0, last(65536 < n))
 }
 
+// Whether no cell's erased bytes are this.
+pub(crate) fn bad_value(v: u32) -> bool
+    ensures { λ r. ⌜ r ≡ badValue v ⌝ }
+{
+    let known = or(v == 255, last(v == 0));
+    !known
+}
+
 pub(crate) fn too_long(n: usize) -> bool
     ensures { λ r. ⌜ r ≡ tooLong n ⌝ }
 {
@@ -45,16 +53,19 @@ pub(crate) fn uneven(n: usize, m: usize) -> bool
     n % m != 0
 }
 
-// Row 1's tests of the state area's sizes, before the list of tests that follow them.
+// Row 1's tests of the state area's sizes and of the erase value, before the list of tests that follow them.
 fn bad_sizes(z: StateSizes, rest: bool) -> bool
-    ensures { λ r. ⌜ ((bs : List Bool) → rest ≡ any bs → r ≡ any (map badNumber (stateNumbers z) ++ bs)) ⌝ }
+    ensures { λ r. ⌜ ((bs : List Bool) → rest ≡ any bs → r ≡ any (map badNumber (stateNumbers z) ++ (badValue (z .ev) ∷ bs))) ⌝ }
 {
-    or(bad_number(z.es), or(bad_number(z.ws), rest))
+    or(
+        bad_number(z.es),
+        or(bad_number(z.ws), or(bad_value(z.ev), rest)),
+    )
 }
 
 // Row 1 of prepare_boot.
 pub(crate) fn boot_limits(g: Geometry, la: usize, ld: usize, ls: usize) -> bool
-    ensures { λ r. ⌜ r ≡ outside (bootNumbers g) (la ∷ ld ∷ ls ∷ []) ⌝ }
+    ensures { λ r. ⌜ r ≡ outside (bootNumbers g) (g .state .ev) (la ∷ ld ∷ ls ∷ []) ⌝ }
 {
     let lengths = or(too_long(la), or(too_long(ld), last(too_long(ls))));
     let state = or(bad_number(g.b), bad_sizes(g.state, lengths));
@@ -64,14 +75,14 @@ pub(crate) fn boot_limits(g: Geometry, la: usize, ld: usize, ls: usize) -> bool
 
 // Row 1 of the calls that read the state area alone.
 pub(crate) fn state_limits(z: StateSizes, ls: usize) -> bool
-    ensures { λ r. ⌜ r ≡ outside (stateNumbers z) (ls ∷ []) ⌝ }
+    ensures { λ r. ⌜ r ≡ outside (stateNumbers z) (z .ev) (ls ∷ []) ⌝ }
 {
     bad_sizes(z, last(too_long(ls)))
 }
 
 // Row 1 of the updater.
 pub(crate) fn updater_limits(z: Sizes, ld: usize, ls: usize) -> bool
-    ensures { λ r. ⌜ r ≡ outside (updaterNumbers z) (ld ∷ ls ∷ []) ⌝ }
+    ensures { λ r. ⌜ r ≡ outside (updaterNumbers z) (z .state .ev) (ld ∷ ls ∷ []) ⌝ }
 {
     let lengths = or(too_long(ld), last(too_long(ls)));
     or(

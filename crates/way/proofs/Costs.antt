@@ -8,9 +8,10 @@ use native.Mathlib.Omega.{arith}
 use lib.Dec.{eqb}
 use lib.ListN.{length, length-append}
 use borrow.Author.Tests.{eq-eqb, ne-eqb}
+use Rattle.state.specs.declared.Cell.{Cell}
 use Rattle.state.specs.Choice.{pick}
 use Rattle.geometry.specs.declared.Geometry.{Geometry}
-use Rattle.geometry.specs.Geometry.{page}
+use Rattle.geometry.specs.Geometry.{cell, page}
 use Rattle.mem_flash.specs.Flash.{active, dfu, Flash}
 use Rattle.mem_flash.specs.Areas.{Image}
 use Rattle.mem_flash.proofs.Erases.{erase-count}
@@ -22,7 +23,8 @@ use Rattle.way.proofs.Fill.{chunks-count}
 pub step-count : (g : Geometry) (c : Copy) (f : Flash) → length (copyOps g c f) ≡ stepCost g (c .to)
 unfolding copyOps fillOps stepCost
 step-count g c f =
-    simp (length-append, erase-count (unitOf g (c .to)) (c .to) (c .target * page g) (page g), chunks-count) (omega arith)
+    let cells : Cell = cell (g .state) in
+    simp (length-append, erase-count cells (unitOf g (c .to)) (c .to) (c .target * page g) (page g), chunks-count cells) (omega arith)
 
 -- which image a step writes, by its number, and what the next one costs
 pub even-dfu : (i : ℕ) → i % 2 ≡ 0 → stepTo i ≡ dfu

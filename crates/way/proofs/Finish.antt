@@ -8,11 +8,14 @@ use Prim.Native.Nat.{ℕ, suc, _+_, _-_, _*_, _/_, _≤_, _<_}
 use native.Mathlib.Omega.{arith}
 use native.Mathlib.Nat.{eq-or-lt-of-le}
 use lib.ListN.{length, replicate, length-append, length-replicate, replicate-append-replicate}
+use Rattle.state.specs.declared.Cell.{Cell}
 use Rattle.state.specs.declared.State.{State}
 use Rattle.state.specs.declared.State.the-variants.{Revert}
-use Rattle.state.specs.Magic.{erased, marked, magic}
+use Rattle.state.specs.Cells.{erased, marked}
+use Rattle.state.specs.Magic.{magic}
 use Rattle.geometry.specs.declared.Geometry.{Geometry}
 use Rattle.geometry.specs.declared.StateSizes.{StateSizes}
+use Rattle.geometry.specs.Geometry.{cell}
 use Rattle.mem_flash.specs.Flash.{state, Flash, Op, blank, erasedAt, writtenAt, change, apply, applyAll, eraseOps, after}
 use Rattle.mem_flash.specs.Run.{placed}
 use Rattle.mem_flash.proofs.Stretches.{bytes-replicate, blank-all, written-erased, length-written}
@@ -38,7 +41,7 @@ finish-close g f S e = ap (closeOps g) e
 
 pub renew-count : (z : StateSizes) (n m : ℕ) → length (renewOps z n m) ≡ 1 + n / z .es
 unfolding renewOps
-renew-count z n m = length-append (eraseOps (z .es) state 0 n) (magicOp z m ∷ []) ∙ omega (arith, erase-count (z .es) state 0 n)
+renew-count z n m = length-append (eraseOps (cell z) (z .es) state 0 n) (magicOp z m ∷ []) ∙ omega (arith, erase-count (cell z) (z .es) state 0 n)
 
 pub close-count : (g : Geometry) (S : ℕ) → length (closeOps g S) ≡ 2 + S / g .state .es
 unfolding closeOps
@@ -49,27 +52,27 @@ finish-count g f = ap length (finish-close g f (length (f .state)) refl) ∙ clo
 
 module _ (A R : List ℕ) where
   pub closed-void : (z : StateSizes) (st : List ℕ)
-      → apply (invalidateOp z) (closed A R st) ≡ closed A R (writtenAt (z .ws) (replicate (z .ws) marked) st)
+      → apply (invalidateOp z) (closed A R st) ≡ closed A R (writtenAt (cell z) (z .ws) (replicate (z .ws) (marked (cell z))) st)
   unfolding invalidateOp apply change closed
   closed-void z st = refl
 
   -- the state area erased
-  wiped : (unit n : ℕ) (st : List ℕ) → n / unit * unit ≡ n → length st ≡ n
-      → applyAll (eraseOps unit state 0 n) (closed A R st) ≡ closed A R (replicate n erased)
+  wiped : (c : Cell) (unit n : ℕ) (st : List ℕ) → n / unit * unit ≡ n → length st ≡ n
+      → applyAll (eraseOps c unit state 0 n) (closed A R st) ≡ closed A R (replicate n (erased c))
   unfolding placed change closed erasedAt
-  wiped unit n st whole e =
-      erase-whole unit state 0 n whole st (closed A R st) ∙ ap (closed A R) (blank-all n st e)
+  wiped c unit n st whole e =
+      erase-whole c unit state 0 n whole st (closed A R st) ∙ ap (closed A R) (blank-all c n st e)
 
   pub signed : (s : State) (z : StateSizes) (n : ℕ) → z .ws ≤ n
-      → apply (magicOp z (magic s)) (closed A R (replicate n erased)) ≡ closed A R (magicArea z s n)
+      → apply (magicOp z (magic s)) (closed A R (replicate n (erased (cell z)))) ≡ closed A R (magicArea z s n)
   unfolding magicOp apply change closed magicArea
   signed s z n h =
       let r : ℕ = n - z .ws in
       let e : n ≡ z .ws + r = omega arith in
       flash-path refl refl
-      (ap (writtenAt 0 (replicate (z .ws) (magic s)))
-      (ap (λ (o : ℕ). replicate o erased) e ∙ sym (replicate-append-replicate (z .ws) r erased))
-      ∙ written-erased [] (replicate (z .ws) (magic s)) (replicate r erased) 0 (z .ws) refl (length-replicate (z .ws) (magic s))
+      (ap (writtenAt (cell z) 0 (replicate (z .ws) (magic s)))
+      (ap (λ (o : ℕ). replicate o (erased (cell z))) e ∙ sym (replicate-append-replicate (z .ws) r (erased (cell z))))
+      ∙ written-erased (cell z) [] (replicate (z .ws) (magic s)) (replicate r (erased (cell z))) 0 (z .ws) refl (length-replicate (z .ws) (magic s))
       (bytes-replicate (z .ws) (magic s) (magic-byte s)))
 
   -- the erase and the magic of any state, then all operations of a revert's end
@@ -77,46 +80,46 @@ module _ (A R : List ℕ) where
       → applyAll (renewOps z n (magic s)) (closed A R st) ≡ closed A R (magicArea z s n)
   unfolding renewOps applyAll
   renewed s z n st whole e h =
-      apply-append (eraseOps (z .es) state 0 n) (magicOp z (magic s) ∷ []) (closed A R st)
-      ∙ ap (apply (magicOp z (magic s))) (wiped (z .es) n st whole e) ∙ signed s z n h
+      apply-append (eraseOps (cell z) (z .es) state 0 n) (magicOp z (magic s) ∷ []) (closed A R st)
+      ∙ ap (apply (magicOp z (magic s))) (wiped (cell z) (z .es) n st whole e) ∙ signed s z n h
 
   pub finished : (g : Geometry) (n : ℕ) (st : List ℕ) → n / g .state .es * g .state .es ≡ n → length st ≡ n → g .state .ws ≤ n
       → applyAll (closeOps g n) (closed A R st) ≡ closed A R (magicArea (g .state) Revert n)
   unfolding applyAll closeOps
   finished g n st whole e h =
       ap (applyAll (renewOps (g .state) n (magic Revert))) (closed-void (g .state) st)
-      ∙ renewed Revert (g .state) n (writtenAt (g .state .ws) (replicate (g .state .ws) marked) st) whole
-      (length-written (g .state .ws) (replicate (g .state .ws) marked) st ∙ e) h
+      ∙ renewed Revert (g .state) n (writtenAt (cell (g .state)) (g .state .ws) (replicate (g .state .ws) (marked (cell (g .state)))) st) whole
+      (length-written (cell (g .state)) (g .state .ws) (replicate (g .state .ws) (marked (cell (g .state)))) st ∙ e) h
 
   -- cut inside the erase: its first units are erased, and the rest is as it was
   renew-erasing : (z : StateSizes) (n m j : ℕ) (st : List ℕ) → j < n / z .es
-      → after j (renewOps z n m) (closed A R st) ≡ closed A R (blank (j * z .es) st)
+      → after j (renewOps z n m) (closed A R st) ≡ closed A R (blank (cell z) (j * z .es) st)
   unfolding renewOps placed change closed
   renew-erasing z n m j st h =
-      after-within j (eraseOps (z .es) state 0 n) (magicOp z m ∷ []) (closed A R st) (omega (arith, erase-count (z .es) state 0 n))
-      ∙ state-part (z .es) n j st (closed A R st) h
+      after-within j (eraseOps (cell z) (z .es) state 0 n) (magicOp z m ∷ []) (closed A R st) (omega (arith, erase-count (cell z) (z .es) state 0 n))
+      ∙ state-part (cell z) (z .es) n j st (closed A R st) h
 
   -- cut at the magic: all units are
   renew-unsigned : (z : StateSizes) (n m : ℕ) (st : List ℕ)
-      → after (n / z .es) (renewOps z n m) (closed A R st) ≡ closed A R (blank (n / z .es * z .es) st)
+      → after (n / z .es) (renewOps z n m) (closed A R st) ≡ closed A R (blank (cell z) (n / z .es * z .es) st)
   unfolding renewOps placed change closed erasedAt
   renew-unsigned z n m st =
-      ap (λ (i : ℕ). after i (renewOps z n m) (closed A R st)) (sym (erase-count (z .es) state 0 n))
-      ∙ after-between (eraseOps (z .es) state 0 n) (magicOp z m ∷ []) (closed A R st)
-      ∙ erase-units (z .es) state 0 n st (closed A R st)
+      ap (λ (i : ℕ). after i (renewOps z n m) (closed A R st)) (sym (erase-count (cell z) (z .es) state 0 n))
+      ∙ after-between (eraseOps (cell z) (z .es) state 0 n) (magicOp z m ∷ []) (closed A R st)
+      ∙ erase-units (cell z) (z .es) state 0 n st (closed A R st)
 
   -- so, with j operations: the first j units. Here alone the two cuts are joined
   pub renew-part : (z : StateSizes) (n m j : ℕ) (st : List ℕ) → j ≤ n / z .es
-      → after j (renewOps z n m) (closed A R st) ≡ closed A R (blank (j * z .es) st)
+      → after j (renewOps z n m) (closed A R st) ≡ closed A R (blank (cell z) (j * z .es) st)
   renew-part z n m j st h = go (eq-or-lt-of-le h)
     where
-      go : (j ≡ n / z .es) ⊎ (j < n / z .es) → after j (renewOps z n m) (closed A R st) ≡ closed A R (blank (j * z .es) st)
+      go : (j ≡ n / z .es) ⊎ (j < n / z .es) → after j (renewOps z n m) (closed A R st) ≡ closed A R (blank (cell z) (j * z .es) st)
       go (inl e) = rw e (renew-unsigned z n m st)
       go (inr l) = renew-erasing z n m j st l
 
   -- with the invalidation first: the rest on an area that is invalid, cut wherever it is
   pub void-first : (z : StateSizes) (n m j : ℕ) (st : List ℕ)
       → after (suc j) (invalidateOp z ∷ renewOps z n m) (closed A R st)
-      ≡ after j (renewOps z n m) (closed A R (writtenAt (z .ws) (replicate (z .ws) marked) st))
+      ≡ after j (renewOps z n m) (closed A R (writtenAt (cell z) (z .ws) (replicate (z .ws) (marked (cell z))) st))
   void-first z n m j st =
       after-next j (invalidateOp z) (renewOps z n m) (closed A R st) ∙ ap (after j (renewOps z n m)) (closed-void z st)

@@ -9,10 +9,13 @@ use native.Mathlib.Nat.{zero-mul, mul-le-mul-right, mul-div-cancel, not-le-of-lt
 use native.Mathlib.Decide.{decLe}
 use native.Mathlib.Omega.{arith}
 use lib.ListN.{length, length-append}
+use Rattle.state.specs.declared.Cell.{Cell}
 use Rattle.state.specs.declared.State.the-variants.{Boot, Swap, Revert}
-use Rattle.state.specs.Magic.{erased, marked, magic}
+use Rattle.state.specs.Cells.{erased, marked}
+use Rattle.state.specs.Magic.{magic}
+use Rattle.state.proofs.Cells.{erased-byte, marked-byte}
 use Rattle.geometry.specs.declared.Geometry.{Geometry}
-use Rattle.geometry.specs.Geometry.{page, pages}
+use Rattle.geometry.specs.Geometry.{cell, page, pages}
 use Rattle.mem_flash.specs.Flash.{Flash, Op, blank, applyAll, after}
 use Rattle.mem_flash.proofs.After.{apply-append, after-within, after-past, after-all, after-first}
 use Rattle.rules.specs.StateArea.{readState, progress}
@@ -41,13 +44,13 @@ copies-past g f (suc j) k i h =
 
 -- n marks are done, and the validity word holds v
 unfoldable pub closing : Geometry → List ℕ → List ℕ → ℕ → ℕ → ℕ → Flash
-closing g A R t n v = closed A R (spread (g .state .ws) (markWords v n (t - n)))
+closing g A R t n v = closed A R (spread (g .state .ws) (markWords (cell (g .state)) v n (t - n)))
 
 module _ (g : Geometry) (A R : List ℕ) (t n : ℕ) (h : n < t) where
-  state-size : (v : ℕ) → length (spread (g .state .ws) (markWords v n (t - n))) ≡ (2 + t) * g .state .ws
+  state-size : (v : ℕ) → length (spread (g .state .ws) (markWords (cell (g .state)) v n (t - n))) ≡ (2 + t) * g .state .ws
   state-size v =
-      let e : length (markWords v n (t - n)) ≡ 2 + t = omega (arith, length-marks v n (t - n)) in
-      length-spread (g .state .ws) (markWords v n (t - n)) ∙ ap (λ (z : ℕ). z * g .state .ws) e
+      let e : length (markWords (cell (g .state)) v n (t - n)) ≡ 2 + t = omega (arith, length-marks (cell (g .state)) v n (t - n)) in
+      length-spread (g .state .ws) (markWords (cell (g .state)) v n (t - n)) ∙ ap (λ (z : ℕ). z * g .state .ws) e
 
 no-swap : Boot ≡ Swap → ⊥
 no-swap e = let z : _≡_ {A = ℕ} 0 1 = cc in omega arith
@@ -89,24 +92,29 @@ pub record Course (g : Geometry) (N t : ℕ) (A R : List ℕ) (f₀ : Flash) : T
   pub page-some : 0 < page g
   pub room : 4 * N < t
   pub active : length A ≡ N * page g
-  pub way : Way g N ((2 + t) * g .state .ws) (2 * N) f₀ (revertFrom N 0 (2 * N)) (closing g A R t (4 * N) erased)
+  pub way : Way g N ((2 + t) * g .state .ws) (2 * N) f₀ (revertFrom N 0 (2 * N)) (closing g A R t (4 * N) (erased (cell (g .state))))
 
 -- the state area's first j units erased, once the marks are void
 unfoldable pub erasedPart : Geometry → List ℕ → List ℕ → ℕ → ℕ → ℕ → Flash
-erasedPart g A R t n j = closed A R (blank (j * g .state .es) (spread (g .state .ws) (markWords marked n (t - n))))
+erasedPart g A R t n j =
+    closed A R
+    (blank (cell (g .state)) (j * g .state .es) (spread (g .state .ws) (markWords (cell (g .state)) (marked (cell (g .state))) n (t - n))))
 
 module _ {g : Geometry} {N t : ℕ} {A R : List ℕ} {f₀ : Flash} (course : Course g N t A R f₀) where
   abbrev S : ℕ
   S = (2 + t) * g .state .ws
 
+  abbrev cells : Cell
+  cells = cell (g .state)
+
   abbrev U : ℕ
   U = S / g .state .es
 
   abbrev h : Flash
-  h = closing g A R t (4 * N) erased
+  h = closing g A R t (4 * N) (erased cells)
 
   abbrev void : Flash
-  void = closing g A R t (4 * N) marked
+  void = closing g A R t (4 * N) (marked cells)
 
   abbrev gone : ℕ → Flash
   gone = erasedPart g A R t (4 * N)
@@ -125,9 +133,9 @@ module _ {g : Geometry} {N t : ℕ} {A R : List ℕ} {f₀ : Flash} (course : Co
     pub gone-boot : readState (g .state) (gone j .state) ≡ Boot
     unfolding erasedPart closed
     gone-boot =
-        blank-boot (g .state) (j * g .state .es) (spread (g .state .ws) (markWords marked (4 * N) (t - 4 * N))) (course .ws)
+        blank-boot (g .state) (j * g .state .es) (spread (g .state .ws) (markWords cells (marked cells) (4 * N) (t - 4 * N))) (course .ws)
         (omega (arith, mul-le-mul-right (g .state .es) some, course .unit))
-        (omega (arith, mul-le-mul-right (g .state .es) most, course .units, state-size g A R t (4 * N) (course .room) marked))
+        (omega (arith, mul-le-mul-right (g .state .es) most, course .units, state-size g A R t (4 * N) (course .room) (marked cells)))
 
     pub gone-idle : bootOps g (gone j) ≡ []
     gone-idle = wants-none g (gone j) gone-boot
@@ -136,17 +144,17 @@ module _ {g : Geometry} {N t : ℕ} {A R : List ℕ} {f₀ : Flash} (course : Co
   not-gone x j one most e swap =
       no-swap (sym (gone-boot j one most) ∙ sym (ap (λ (y : Flash). readState (g .state) (y .state)) e) ∙ swap)
 
-  -- the last operations, from a validity word that holds v: cut after the invalidation and j units, and whole
-  close-gone : (v j : ℕ) → j ≤ U → after (suc j) (closeOps g S) (closing g A R t (4 * N) v) ≡ gone j
+  -- the last operations, from a validity word that holds the byte v: cut after the invalidation and j units, and whole
+  close-gone : (v j : ℕ) → v < 256 → j ≤ U → after (suc j) (closeOps g S) (closing g A R t (4 * N) v) ≡ gone j
   unfolding closing closeOps erasedPart
-  close-gone v j less =
-      void-first A R (g .state) S (magic Revert) j (spread (g .state .ws) (markWords v (4 * N) (t - 4 * N)))
+  close-gone v j byte less =
+      void-first A R (g .state) S (magic Revert) j (spread (g .state .ws) (markWords cells v (4 * N) (t - 4 * N)))
       ∙ renew-part A R (g .state) S (magic Revert) j _ less
-      ∙ ap (λ (l : List ℕ). closed A R (blank (j * g .state .es) l)) (void-written (g .state .ws) v (4 * N) (t - 4 * N))
+      ∙ ap (λ (l : List ℕ). closed A R (blank cells (j * g .state .es) l)) (void-written cells (g .state .ws) v (4 * N) (t - 4 * N) byte)
 
   gone-none : gone 0 ≡ void
   unfolding closing erasedPart blank
-  gone-none = ap (λ (n : ℕ). closed A R (blank n (spread (g .state .ws) (markWords marked (4 * N) (t - 4 * N))))) (zero-mul (g .state .es))
+  gone-none = ap (λ (n : ℕ). closed A R (blank cells n (spread (g .state .ws) (markWords cells (marked cells) (4 * N) (t - 4 * N))))) (zero-mul (g .state .es))
 
   closing-swap : (v : ℕ) → readState (g .state) (closing g A R t (4 * N) v .state) ≡ Swap
   unfolding closing closed
@@ -155,7 +163,7 @@ module _ {g : Geometry} {N t : ℕ} {A R : List ℕ} {f₀ : Flash} (course : Co
   close-all : (v : ℕ) → applyAll (closeOps g S) (closing g A R t (4 * N) v) ≡ done
   unfolding closing
   close-all v =
-      finished A R g S (spread (g .state .ws) (markWords v (4 * N) (t - 4 * N))) (course .units)
+      finished A R g S (spread (g .state .ws) (markWords cells v (4 * N) (t - 4 * N))) (course .units)
       (state-size g A R t (4 * N) (course .room) v) (omega arith)
 
   -- where the last operations are cut after the first j: before the erase, or after i units of it
@@ -163,20 +171,20 @@ module _ {g : Geometry} {N t : ℕ} {A R : List ℕ} {f₀ : Flash} (course : Co
     early : j < 2 → Turning x 1 → readState (g .state) (x .state) ≡ Swap → Stop j x
     late : (i : ℕ) → j ≡ suc i → 1 ≤ i → i ≤ U → x ≡ gone i → Stop j x
 
-  close-cut : (v : ℕ) → Turning (closing g A R t (4 * N) v) 1 → (j : ℕ) → j < 2 + U
+  close-cut : (v : ℕ) → v < 256 → Turning (closing g A R t (4 * N) v) 1 → (j : ℕ) → j < 2 + U
       → Stop j (after j (closeOps g S) (closing g A R t (4 * N) v))
-  close-cut v on zero less =
+  close-cut v byte on zero less =
       subst (Stop 0) (sym (after-first (closeOps g S) (closing g A R t (4 * N) v))) (early (omega arith) on (closing-swap v))
-  close-cut v on (suc zero) less =
-      let e : after 1 (closeOps g S) (closing g A R t (4 * N) v) ≡ void = close-gone v 0 (omega arith) ∙ gone-none in
-      early (omega arith) (voided e) (ap (λ (x : Flash). readState (g .state) (x .state)) e ∙ closing-swap marked)
-  close-cut v on (suc (suc i)) less = late (suc i) refl (omega arith) (omega arith) (close-gone v (suc i) (omega arith))
+  close-cut v byte on (suc zero) less =
+      let e : after 1 (closeOps g S) (closing g A R t (4 * N) v) ≡ void = close-gone v 0 byte (omega arith) ∙ gone-none in
+      early (omega arith) (voided e) (ap (λ (x : Flash). readState (g .state) (x .state)) e ∙ closing-swap (marked cells))
+  close-cut v byte on (suc (suc i)) less = late (suc i) refl (omega arith) (omega arith) (close-gone v (suc i) byte (omega arith))
 
   -- the steps that were left, then the last operations
-  tail-run : (v : ℕ) → Turning (closing g A R t (4 * N) v) 1 → (now : Flash) (m k : ℕ) (os : List Op) → length os ≤ k
+  tail-run : (v : ℕ) → v < 256 → Turning (closing g A R t (4 * N) v) 1 → (now : Flash) (m k : ℕ) (os : List Op) → length os ≤ k
       → applyAll os now ≡ closing g A R t (4 * N) v → readState (g .state) (now .state) ≡ Swap → 0 < m
       → (nextCost g now ≤ k → k < length os + 2 → 1 < m) → Turned now m k (os ++ closeOps g S)
-  tail-run v on now m k os l d swap more some = go (decLe (length os + (2 + U)) k)
+  tail-run v byte on now m k os l d swap more some = go (decLe (length os + (2 + U)) k)
     where
       size : length (os ++ closeOps g S) ≡ length os + (2 + U)
       size = length-append os (closeOps g S) ∙ ap (λ (n : ℕ). length os + n) (close-count g S)
@@ -211,19 +219,19 @@ module _ {g : Geometry} {N t : ℕ} {A R : List ℕ} {f₀ : Flash} (course : Co
       go (yes y) =
           ends (omega (arith, size)) (apply-append os (closeOps g S) now ∙ ap (applyAll (closeOps g S)) d ∙ close-all v) swap
       go (no y) =
-          stop _ (sym at) (lt-of-not-le y) (close-cut v on j (omega (arith, e, lt-of-not-le y)))
+          stop _ (sym at) (lt-of-not-le y) (close-cut v byte on j (omega (arith, e, lt-of-not-le y)))
 
   void-reads : Reads g N S (2 + (4 * N + (t - 4 * N)) - 3) void
   unfolding closing closed pageCount pages
   void-reads =
       record {
-        swap = reads-swap (g .state) (course .ws) marked (4 * N) (t - 4 * N) (omega (arith, course .room));
+        swap = reads-swap (g .state) (course .ws) (marked cells) (4 * N) (t - 4 * N) (omega (arith, course .room));
         paged = ap (λ (l : ℕ). l / page g) (course .active) ∙ mul-div-cancel N (course .page-some);
-        sized = state-size g A R t (4 * N) (course .room) marked;
+        sized = state-size g A R t (4 * N) (course .room) (marked cells);
         done = progress-void (g .state) (course .ws) (4 * N) (t - 4 * N) (omega (arith, course .room));
         settled =
             confirming-reverted (g .state) N _
-            (omega (arith, done-marks (g .state) (course .ws) marked (4 * N) (t - 4 * N) (omega (arith, course .room))));
+            (omega (arith, done-marks (g .state) (course .ws) (marked cells) (4 * N) (t - 4 * N) (omega (arith, course .room))));
       }
 
   void-wants : bootOps g void ≡ closeOps g S
@@ -236,7 +244,7 @@ module _ {g : Geometry} {N t : ℕ} {A R : List ℕ} {f₀ : Flash} (course : Co
   unfolding applyAll
   void-run k =
       subst (λ (os : List Op). Turned void 1 k os) (sym void-wants)
-      (tail-run marked (voided refl) void 1 k [] zero-le refl (void-reads .swap) (omega arith)
+      (tail-run (marked cells) (marked-byte cells) (voided refl) void 1 k [] zero-le refl (void-reads .swap) (omega arith)
       (λ x y. absurd (omega (arith, course .cost void))))
 
   -- ---- steps are left
@@ -271,7 +279,7 @@ module _ {g : Geometry} {N t : ℕ} {A R : List ℕ} {f₀ : Flash} (course : Co
 
         go : Went g N S h (2 * N) cs rest now k steps → Turned now (suc rest) k (steps ++ closeOps g S)
         go (through l d none) =
-            tail-run erased (copying (on-end g N S h cs (2 * N) f₀ (course .way))) now (suc rest) k steps l d
+            tail-run (erased cells) (erased-byte cells) (copying (on-end g N S h cs (2 * N) f₀ (course .way))) now (suc rest) k steps l d
             (found .reads .swap) (omega arith) (λ x y. some x y (decLe 1 rest))
         go (stopped l c z b gain still o) =
             let at : after k (steps ++ closeOps g S) now ≡ after k steps now =

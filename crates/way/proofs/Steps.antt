@@ -1,6 +1,5 @@
 -- One step of a swap or of a revert, from a flash whose target page may hold anything: done whole it leaves what it always
--- leaves, and cut anywhere it has touched that page alone. Serves `power`; `Whole` also `settles`. Assumes
--- nothing.
+-- leaves, and cut anywhere it has touched that page alone. Serves `power`. Assumes nothing.
 use mathlib.Core.Path.{_≡_, refl, sym, ap, _∙_, subst, ap₂}
 use mathlib.Core.List.{List, [], _∷_, _++_}
 use Prim.Native.Nat.{ℕ, _+_, _*_, _/_, _≤_, _<_}
@@ -8,9 +7,9 @@ use native.Mathlib.Nat.{lt-of-not-le}
 use native.Mathlib.Decide.{decLe}
 use native.Mathlib.Omega.{arith}
 use lib.ListN.{length, replicate, length-append}
-use Rattle.state.specs.Magic.{marked}
+use Rattle.state.specs.Cells.{marked}
 use Rattle.geometry.specs.declared.Geometry.{Geometry}
-use Rattle.geometry.specs.Geometry.{page}
+use Rattle.geometry.specs.Geometry.{cell, page}
 use Rattle.geometry.specs.Admitted.{Admitted}
 use Rattle.geometry.proofs.Tests.{even-times}
 use Rattle.mem_flash.specs.Flash.{Area, active, dfu, state, Flash, Op, writtenAt, change, apply, applyAll, after}
@@ -57,7 +56,7 @@ unfoldable pub stepped : Geometry → Copy → Flash → Flash
 stepped g c f =
     change
     state
-    (writtenAt ((2 + c .mark) * g .state .ws) (replicate (g .state .ws) marked))
+    (writtenAt (cell (g .state)) ((2 + c .mark) * g .state .ws) (replicate (g .state .ws) (marked (cell (g .state)))))
     (placed (c .to) (withPage (page g) (c .target) (pageAt (page g) (c .source) (sourceOf (c .to) f)) (areaOf (c .to) f)) f)
 
 pub near-refl : (g : Geometry) (c : Copy) (f : Flash) → Near g c f f
@@ -77,7 +76,7 @@ source-placed state xs f i = absurd i
 
 -- the operations of a step whose source holds these bytes
 abbrev filling : Geometry → Copy → List ℕ → List Op
-filling g c source = fillOps (unitOf g (c .to)) (page g) (g .b) (c .target * page g) (c .source * page g) source (c .to)
+filling g c source = fillOps (cell (g .state)) (unitOf g (c .to)) (page g) (g .b) (c .target * page g) (c .source * page g) source (c .to)
 
 module _ {g : Geometry} {c : Copy} {f now : Flash} (whole : Whole g) (fits : Fits g c f) (near : Near g c f now) where
   abbrev markOps : List Op
@@ -109,15 +108,15 @@ module _ {g : Geometry} {c : Copy} {f now : Flash} (whole : Whole g) (fits : Fit
   fills-whole : applyAll fills start
       ≡ placed (c .to) (withPage (page g) (c .target) (pageAt (page g) (c .source) (sourceOf (c .to) f)) (areaOf (c .to) f)) f
   unfolding withPage pageAt
-  fills-whole = fill-whole fillable (c .source * page g) (sourceOf (c .to) f) (c .to) f (fits .bytes) (fits .inside-source)
+  fills-whole = fill-whole (cell (g .state)) fillable (c .source * page g) (sourceOf (c .to) f) (c .to) f (fits .bytes) (fits .inside-source)
 
   fills-near : Near g c f (applyAll fills start)
-  fills-near = fill-held fillable (c .source * page g) (sourceOf (c .to) f) (c .to) f
+  fills-near = fill-held (cell (g .state)) fillable (c .source * page g) (sourceOf (c .to) f) (c .to) f
 
   fills-cut : (k : ℕ) → k < length fills → Near g c f (after k fills start)
   fills-cut k h =
-      fill-cut-held fillable (c .source * page g) (sourceOf (c .to) f) (c .to) f k
-      (omega (arith, h, fill-count (unitOf g (c .to)) (page g) (g .b) (c .target * page g) (c .source * page g) (sourceOf (c .to) f) (c .to)))
+      fill-cut-held (cell (g .state)) fillable (c .source * page g) (sourceOf (c .to) f) (c .to) f k
+      (omega (arith, h, fill-count (cell (g .state)) (unitOf g (c .to)) (page g) (g .b) (c .target * page g) (c .source * page g) (sourceOf (c .to) f) (c .to)))
 
   -- done from a flash that is near f, the step leaves what it leaves from f
   pub step-whole : applyAll (copyOps g c now) now ≡ stepped g c f

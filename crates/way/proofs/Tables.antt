@@ -7,9 +7,10 @@ use Prim.Native.Nat.{ℕ, zero, suc, _+_, _-_, _*_, _/_, _%_, _≤_, _<_}
 use native.Mathlib.Nat.{suc-mul, mul-le-mul-right, mul-div-cancel}
 use native.Mathlib.Omega.{arith}
 use lib.ListN.{length, take, drop, replicate}
-use Rattle.state.specs.Magic.{erased, marked}
+use Rattle.state.specs.declared.Cell.{Cell}
+use Rattle.state.specs.Cells.{erased, marked}
 use Rattle.geometry.specs.declared.Geometry.{Geometry}
-use Rattle.geometry.specs.Geometry.{page, pages}
+use Rattle.geometry.specs.Geometry.{cell, page, pages}
 use Rattle.mem_flash.specs.Flash.{active, dfu, Flash, writtenAt, change}
 use Rattle.mem_flash.specs.Run.{placed}
 use Rattle.mem_flash.specs.Areas.{Bytes, areaOf, Image}
@@ -84,17 +85,24 @@ pub record Images (p N : ℕ) (A D A′ D′ : List ℕ) : Type 0 where
 -- c pages of active and d of DFU are old, the others new; n marks of t are done
 unfoldable pub stageTable : Geometry → List ℕ → List ℕ → List ℕ → List ℕ → ℕ → ℕ → ℕ → ℕ → Flash
 stageTable g A D A′ D′ t c d n =
-    record { active = mix (page g) c A A′; dfu = mix (page g) d D D′; state = spread (g .state .ws) (markWords erased n (t - n)) }
+    record {
+      active = mix (page g) c A A′;
+      dfu = mix (page g) d D D′;
+      state = spread (g .state .ws) (markWords (cell (g .state)) (erased (cell (g .state))) n (t - n));
+    }
 
-mark-more : (w v n t : ℕ) → n < t
-    → writtenAt ((2 + n) * w) (replicate w marked) (spread w (markWords v n (t - n))) ≡ spread w (markWords v (suc n) (t - suc n))
-mark-more w v n t h =
+mark-more : (c : Cell) (w v n t : ℕ) → n < t
+    → writtenAt c ((2 + n) * w) (replicate w (marked c)) (spread w (markWords c v n (t - n))) ≡ spread w (markWords c v (suc n) (t - suc n))
+mark-more c w v n t h =
     let e : t - n ≡ suc (t - suc n) = omega arith in
-    ap (λ (r : ℕ). writtenAt ((2 + n) * w) (replicate w marked) (spread w (markWords v n r))) e ∙ mark-next w v n (t - suc n)
+    ap (λ (r : ℕ). writtenAt c ((2 + n) * w) (replicate w (marked c)) (spread w (markWords c v n r))) e ∙ mark-next c w v n (t - suc n)
 
 module _ (g : Geometry) (N t : ℕ) (A D A′ D′ : List ℕ) (ws : 0 < g .state .ws) (im : Images (page g) N A D A′ D′) where
   abbrev P : ℕ
   P = page g
+
+  abbrev cells : Cell
+  cells = cell (g .state)
 
   abbrev at : ℕ → ℕ → ℕ → Flash
   at = stageTable g A D A′ D′ t
@@ -108,11 +116,11 @@ module _ (g : Geometry) (N t : ℕ) (A D A′ D′ : List ℕ) (ws : 0 < g .stat
   pub table-reads : (c d n : ℕ) → c ≤ N → n < t → Reads g N ((2 + t) * g .state .ws) n (at c d n)
   unfolding stageTable pageCount pages
   table-reads c d n hc h =
-      let all : length (markWords erased n (t - n)) ≡ 2 + t = omega (arith, length-marks erased n (t - n)) in
+      let all : length (markWords cells (erased cells) n (t - n)) ≡ 2 + t = omega (arith, length-marks cells (erased cells) n (t - n)) in
       record {
-        swap = reads-swap (g .state) ws erased n (t - n) (omega arith);
+        swap = reads-swap (g .state) ws (erased cells) n (t - n) (omega arith);
         paged = ap (λ (l : ℕ). l / P) (active-length c hc) ∙ mul-div-cancel N (im .some);
-        sized = length-spread (g .state .ws) (markWords erased n (t - n)) ∙ ap (λ (l : ℕ). l * g .state .ws) all;
+        sized = length-spread (g .state .ws) (markWords cells (erased cells) n (t - n)) ∙ ap (λ (l : ℕ). l * g .state .ws) all;
         done = progress-marks (g .state) ws n (t - n) (omega arith);
         settled = confirming-counted (g .state) N _ (marks-valid (g .state) ws n (t - n) (omega arith));
       }
@@ -134,7 +142,7 @@ module _ (g : Geometry) (N t : ℕ) (A D A′ D′ : List ℕ) (ws : 0 < g .stat
               inside-source = rw (active-length c hc) (pages-le P hs);
               inside-target = rw (dfu-length d hd) fit;
             };
-        leads = flash-path refl e (mark-more (g .state .ws) erased n t hn);
+        leads = flash-path refl e (mark-more cells (g .state .ws) (erased cells) n t hn);
       }
 
   -- a step to active: page k from DFU page s moves c to c′
@@ -154,7 +162,7 @@ module _ (g : Geometry) (N t : ℕ) (A D A′ D′ : List ℕ) (ws : 0 < g .stat
               inside-source = rw (dfu-length d hd) fit;
               inside-target = rw (active-length c hc) (pages-le P hk);
             };
-        leads = flash-path e refl (mark-more (g .state .ws) erased n t hn);
+        leads = flash-path e refl (mark-more cells (g .state .ws) (erased cells) n t hn);
       }
 
   module _ (k : ℕ) (h : k < N) (n : ℕ) (hn : n < t) where

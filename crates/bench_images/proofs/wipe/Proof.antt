@@ -4,13 +4,14 @@ use Prim.Native.Nat.{ℕ, _-_, _<_, _≤_}
 use native.Mathlib.Omega.{arith}
 use lib.ListN.{length, getD, length-set}
 use borrow.Author.Needs.{needs}
-use Rattle.state.specs.Magic.{erased}
+use Rattle.state.specs.declared.Cell.the-variants.{High}
+use Rattle.state.specs.Cells.{erased}
 use Rattle.bench_images.proofs.Laws.{set-more, all-blank}
 use Rattle.bench_images.proofs.wipe.Statement.{statement}
 use Rattle.bench_images.proofs.wipe.Tie as tie
 
 abbrev Inv-loop : tie.InvT-loop
-Inv-loop area₀ i₀ area i = (i ≤ length area) × (length area ≡ length area₀) × ((j : ℕ) → j < i → getD area j 0 ≡ erased)
+Inv-loop area₀ i₀ area i = (i ≤ length area) × (length area ≡ length area₀) × ((j : ℕ) → j < i → getD area j 0 ≡ erased High)
 
 abbrev μ-loop : tie.MeasureT-loop
 μ-loop area₀ i₀ area i = length area - i
@@ -32,7 +33,7 @@ unfolding erased
 loop-again c =
     let l = c .before .loop in
     let t = c .loop-test .taken in
-    (simp length-set (omega (arith, t)), simp length-set (l .inv .1), set-more (λ j. erased) (l .i) 255 (l .area) t refl (l .inv .2))
+    (simp length-set (omega (arith, t)), simp length-set (l .inv .1), set-more (λ j. erased High) (l .i) 255 (l .area) t refl (l .inv .2))
 
 same-length : tie.Need-same-length Inv-loop μ-loop
 same-length c = search needs

@@ -6,8 +6,14 @@ use Rattle.boot_steps.proofs.update_progress.Tie as tie
 cast-ws : tie.Need-cast-ws
 cast-ws c = search needs
 
+cell-requires : tie.Need-cell-requires
+cell-requires c κs = search needs
+
 word-offset-requires : tie.Need-word-offset-requires
 word-offset-requires c κs = search needs
+
+marked-requires : tie.Need-marked-requires
+marked-requires c κs = search needs
 
 write-word-requires : tie.Need-write-word-requires
 write-word-requires c κs = search needs
@@ -16,8 +22,11 @@ same-length : tie.Need-same-length
 same-length c = search needs
 
 returns : tie.Need-returns
-returns c = marks _ (c .before .before .before .before .before .before .before .args .g .state) _ _ _ _ _ (c .before .before .before .word-offset .ensures) (c .before .before .write-word .ensures)
+returns c =
+    let o = c .before .before .before .before in
+    let e = o .before .before in
+    marks _ (e .before .before .before .args .g .state) _ _ _ _ _ (e .cell .ensures) (c .before .before .before .marked .ensures) (o .word-offset .ensures) (c .before .before .write-word .ensures)
 
 pub update-progress-spec : {M : Type 1} → statement M
 update-progress-spec =
-    tie.close (tie.spec cast-ws word-offset-requires write-word-requires same-length returns)
+    tie.close (tie.spec cast-ws cell-requires word-offset-requires marked-requires write-word-requires same-length returns)

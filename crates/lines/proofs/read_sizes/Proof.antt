@@ -1,6 +1,7 @@
 -- `read_sizes`: a row of seven, or none. Assumes nothing.
 use mathlib.Core.Path.{sym, ap}
 use borrow.Author.Needs.{needs}
+use Rattle.state.specs.Cells.{erased}
 use Rattle.lines.specs.Lines.{sizesLine, sizesOf}
 use Rattle.lines.proofs.Said.{row-no, row-yes}
 use Rattle.lines.proofs.read_sizes.Statement.{statement}
@@ -34,11 +35,14 @@ array-read-t21 c = search needs
 array-read-t24 : tie.Need-array-read-t24
 array-read-t24 c = search needs
 
-array-read-t28 : tie.Need-array-read-t28
-array-read-t28 c = search needs
+cast-t25 : tie.Need-cast-t25
+cast-t25 c = search needs
+
+array-read-t29 : tie.Need-array-read-t29
+array-read-t29 c = search needs
 
 returns-2 : tie.Need-returns-2
-unfolding sizesLine sizesOf
+unfolding sizesLine sizesOf erased
 returns-2 c = sym (ap sizesOf (row-yes _ _ _ (c .before .before .row .ensures) (c .if1 .left)))
 
 pub read-sizes-spec : {M : Type 1} → statement M
@@ -54,5 +58,6 @@ read-sizes-spec =
     array-read-t18
     array-read-t21
     array-read-t24
-    array-read-t28
+    cast-t25
+    array-read-t29
     returns-2)

@@ -7,10 +7,10 @@ use Rattle.mem_flash.proofs.erase.Statement.{statement}
 use Rattle.mem_flash.proofs.erase.Tie as tie
 
 returns : tie.Need-returns
-returns c = erase-unitless _ _ _ _ _ (c .if1 .taken)
+returns c = erase-unitless _ _ _ _ _ _ (c .if1 .taken)
 
 returns-2 : tie.Need-returns-2
-returns-2 c = erase-nothing _ _ _ _ _ (omega (arith, c .if2 .taken))
+returns-2 c = erase-nothing _ _ _ _ _ _ (omega (arith, c .if2 .taken))
 
 div-erase-units : tie.Need-div-erase-units
 div-erase-units c = search needs
@@ -22,7 +22,7 @@ same-length : tie.Need-same-length
 same-length c = search needs
 
 returns-3 : tie.Need-returns-3
-returns-3 c = let a = c .before .before .before .before .before .before .before .before .before .before .before .args in erase-all _ (a .unit) (a .from .0) (a .to .0 - a .from .0) _ _ _ (c .before .before .erase-units .ensures)
+returns-3 c = let a = c .before .before .before .before .before .before .before .before .before .before .before .args in erase-all _ _ (a .unit) (a .from .0) (a .to .0 - a .from .0) _ _ _ (c .before .before .erase-units .ensures)
 
 pub erase-spec : {M : Type 1} → statement M
 erase-spec =

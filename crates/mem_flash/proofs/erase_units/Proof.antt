@@ -11,11 +11,11 @@ use Rattle.mem_flash.proofs.erase_units.Statement.{statement}
 use Rattle.mem_flash.proofs.erase_units.Tie as tie
 
 abbrev Inv-loop : tie.InvT-loop
-Inv-loop area₀ count unit at₀ still₀ i₀ area at still i = (i ≤ count) × (at ≡ at₀ + i * unit) × (length area ≡ length area₀)
-    × ((a : Area) (f : Flash) → run (still₀ .0) (unitOps count unit a at₀) (placed a area₀ f) ≡ run (still .0) (unitOps (count - i) unit a at) (placed a area f))
+Inv-loop area₀ count unit cell at₀ still₀ i₀ area at still i = (i ≤ count) × (at ≡ at₀ + i * unit) × (length area ≡ length area₀)
+    × ((a : Area) (f : Flash) → run (still₀ .0) (unitOps cell count unit a at₀) (placed a area₀ f) ≡ run (still .0) (unitOps cell (count - i) unit a at) (placed a area f))
 
 abbrev μ-loop : tie.MeasureT-loop
-μ-loop area₀ count unit at₀ still₀ i₀ area at still i = count - i
+μ-loop area₀ count unit cell at₀ still₀ i₀ area at still i = count - i
 
 loop-holds : tie.Need-loop-holds Inv-loop μ-loop
 loop-holds c = (omega arith, omega arith, search needs, λ a f. simp sub-zero)
@@ -40,7 +40,7 @@ returns c = λ a f.
     let unit = c .before .before .before .before in
     let turn = unit .before .before in
     turn .before .loop .inv .3 a f
-    ∙ unit-cut _ _ _ _ _ _ _ _ _ (unit .erase-unit .ensures) (omega arith) (turn .loop-test .taken) (c .enum-told .given .1) a f
+    ∙ unit-cut _ _ _ _ _ _ _ _ _ _ (unit .erase-unit .ensures) (omega arith) (turn .loop-test .taken) (c .enum-told .given .1) a f
 
 add-i : tie.Need-add-i Inv-loop μ-loop
 add-i c = search needs
@@ -57,14 +57,14 @@ loop-again c =
       search needs,
       λ a f.
           turn .before .loop .inv .3 a f
-          ∙ unit-on _ _ _ _ _ _ _ _ _ (unit .erase-unit .ensures) (omega arith) (turn .loop-test .taken) _ (c .before .rest .given .1) a f,
+          ∙ unit-on _ _ _ _ _ _ _ _ _ _ (unit .erase-unit .ensures) (omega arith) (turn .loop-test .taken) _ (c .before .rest .given .1) a f,
     )
 
 same-length-2 : tie.Need-same-length-2 Inv-loop μ-loop
 same-length-2 c = search needs
 
 returns-2 : tie.Need-returns-2 Inv-loop μ-loop
-returns-2 c = λ a f. c .before .loop .inv .3 a f ∙ units-none _ _ _ _ _ (omega (arith, c .loop-test .left)) a f
+returns-2 c = λ a f. c .before .loop .inv .3 a f ∙ units-none _ _ _ _ _ _ (omega (arith, c .loop-test .left)) a f
 
 pub erase-units-spec : {M : Type 1} → statement M
 erase-units-spec =

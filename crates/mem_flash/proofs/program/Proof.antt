@@ -2,6 +2,8 @@ use native.Mathlib.Nat.{add-zero, sub-zero}
 use mathlib.Core.Path.{_≡_, refl, _∙_, sym}
 use Prim.Native.Nat.{_+_, _-_, _≤_}
 use lib.ListN.{length, take, drop}
+use Rattle.state.specs.declared.Cell.{Cell}
+use Rattle.state.specs.Cells.{marked}
 use Rattle.mem_flash.specs.Flash.{writtenAt}
 use Rattle.mem_flash.proofs.Bytes.{write-turn, write-end}
 use borrow.Author.Needs.{needs}
@@ -9,25 +11,29 @@ use Rattle.mem_flash.proofs.program.Statement.{statement}
 use Rattle.mem_flash.proofs.program.Tie as tie
 
 abbrev Inv-loop : tie.InvT-loop
-Inv-loop area₀ bytes len at i₀ area i = (i ≤ len) × (length area ≡ length area₀) × (writtenAt (at + i) (take (len - i) (drop i bytes)) area ≡ writtenAt at (take len bytes) area₀)
+Inv-loop area₀ bytes len mark at i₀ area i = (i ≤ len) × (length area ≡ length area₀)
+    × ((k : Cell) → mark ≡ marked k → writtenAt k (at + i) (take (len - i) (drop i bytes)) area ≡ writtenAt k at (take len bytes) area₀)
 
 abbrev μ-loop : tie.MeasureT-loop
-μ-loop area₀ bytes len at i₀ area i = len - i
+μ-loop area₀ bytes len mark at i₀ area i = len - i
 
 loop-holds : tie.Need-loop-holds Inv-loop μ-loop
-loop-holds c = (search needs, refl, simp (add-zero, sub-zero))
+loop-holds c = (search needs, refl, λ k e. simp (add-zero, sub-zero))
+
+add-merged : tie.Need-add-merged Inv-loop μ-loop
+add-merged c = search needs
+
+slice-read-merged : tie.Need-slice-read-merged Inv-loop μ-loop
+slice-read-merged c = search needs
+
+shared-slice-read-merged : tie.Need-shared-slice-read-merged Inv-loop μ-loop
+shared-slice-read-merged c = search needs
 
 add-area : tie.Need-add-area Inv-loop μ-loop
 add-area c = search needs
 
-slice-read-area : tie.Need-slice-read-area Inv-loop μ-loop
-slice-read-area c = search needs
-
-shared-slice-read-area : tie.Need-shared-slice-read-area Inv-loop μ-loop
-shared-slice-read-area c = search needs
-
-add-area-2 : tie.Need-add-area-2 Inv-loop μ-loop
-add-area-2 c = search needs
+merged-requires : tie.Need-merged-requires Inv-loop μ-loop
+merged-requires c κs = search needs
 
 slice-write-area : tie.Need-slice-write-area Inv-loop μ-loop
 slice-write-area c = search needs
@@ -39,13 +45,13 @@ loop-less : tie.Need-loop-less Inv-loop μ-loop
 loop-less c = search needs
 
 loop-again : tie.Need-loop-again Inv-loop μ-loop
-loop-again c = (search needs, search needs, write-turn _ _ _ _ _ (c .before .before .loop-test .taken) (search needs) (search needs) ∙ c .before .before .before .loop .inv .2)
+loop-again c = (search needs, search needs, λ k e. write-turn k _ _ _ _ _ _ (c .before .before .before .loop-test .taken) (search needs) (search needs) (c .merged .ensures k e) ∙ c .before .before .before .before .loop .inv .2 k e)
 
 same-length : tie.Need-same-length Inv-loop μ-loop
 same-length c = search needs
 
 returns : tie.Need-returns Inv-loop μ-loop
-returns c = sym (sym (c .before .loop .inv .2) ∙ write-end _ _ _ _ _ (c .loop-test .left))
+returns c = λ k e. sym (sym (c .before .loop .inv .2 k e) ∙ write-end k _ _ _ _ _ (c .loop-test .left))
 
 pub program-spec : {M : Type 1} → statement M
 program-spec =
@@ -54,10 +60,11 @@ program-spec =
     Inv-loop
     μ-loop
     loop-holds
+    add-merged
+    slice-read-merged
+    shared-slice-read-merged
+    merged-requires
     add-area
-    slice-read-area
-    shared-slice-read-area
-    add-area-2
     slice-write-area
     add-i
     loop-less

@@ -6,7 +6,7 @@ use Rattle.mem_flash.proofs.write.Statement.{statement}
 use Rattle.mem_flash.proofs.write.Tie as tie
 
 returns : tie.Need-returns
-returns c = cut-write _ _ _ _ (c .if1 .taken)
+returns c = cut-write _ _ _ _ _ (c .if1 .taken)
 
 least-requires : tie.Need-least-requires
 least-requires c κs = search needs
@@ -17,17 +17,20 @@ sub-least c = search needs
 least-requires-2 : tie.Need-least-requires-2
 least-requires-2 c κs = search needs
 
+marked-requires : tie.Need-marked-requires
+marked-requires c κs = search needs
+
 program-requires : tie.Need-program-requires
 program-requires c κs = search needs
 
-sub-t16 : tie.Need-sub-t16
-sub-t16 c = search needs
+sub-t18 : tie.Need-sub-t18
+sub-t18 c = search needs
 
 same-length : tie.Need-same-length
 same-length c = search needs
 
 returns-2 : tie.Need-returns-2
-returns-2 c = on-write _ _ _ (search needs) _ _ (c .before .before .program .ensures ∙ write-clip _ _ _ _ _ (c .before .before .before .before .before .least .ensures) (c .before .before .before .before .least2 .ensures))
+returns-2 c = on-write _ _ _ _ (search needs) _ _ (c .before .before .program .ensures _ (c .before .before .before .marked .ensures) ∙ write-clip _ _ _ _ _ _ (c .before .before .before .before .before .before .least .ensures) (c .before .before .before .before .before .least2 .ensures))
 
 pub write-spec : {M : Type 1} → statement M
 write-spec =
@@ -37,7 +40,8 @@ write-spec =
     least-requires
     sub-least
     least-requires-2
+    marked-requires
     program-requires
-    sub-t16
+    sub-t18
     same-length
     returns-2)

@@ -13,18 +13,18 @@ use Rattle.page_copy.proofs.copy_chunks.Tie as tie
 
 -- what is left to write, written to what is there, is the whole
 abbrev Inv-loop : tie.InvT-loop
-Inv-loop target₀ source count b at₀ taken₀ still₀ i₀ target at taken still i =
+Inv-loop target₀ source count b cell at₀ taken₀ still₀ i₀ target at taken still i =
     (i ≤ count)
     × (at ≡ at₀ + i * b)
     × (taken ≡ taken₀ + i * b)
     × (at₀ + count * b ≤ length target)
     × (taken₀ + count * b ≤ length source)
     × (length target ≡ length target₀)
-    × ((a : Area) (f : Flash) → run (still₀ .0) (chunkOps count a at₀ taken₀ b source) (placed a target₀ f)
-    ≡ run (still .0) (chunkOps (count - i) a at taken b source) (placed a target f))
+    × ((a : Area) (f : Flash) → run (still₀ .0) (chunkOps cell count a at₀ taken₀ b source) (placed a target₀ f)
+    ≡ run (still .0) (chunkOps cell (count - i) a at taken b source) (placed a target f))
 
 abbrev μ-loop : tie.MeasureT-loop
-μ-loop target₀ source count b at₀ taken₀ still₀ i₀ target at taken still i = count - i
+μ-loop target₀ source count b cell at₀ taken₀ still₀ i₀ target at taken still i = count - i
 
 loop-holds : tie.Need-loop-holds Inv-loop μ-loop
 loop-holds c = (search needs, omega arith, omega arith, search needs, search needs, search needs, λ a f. simp sub-zero)
@@ -60,7 +60,7 @@ returns : tie.Need-returns Inv-loop μ-loop
 returns c =
     let w = c .before .before .before .before in
     let t = w .before .before .before in
-    λ a f. t .before .loop .inv .6 a f ∙ chunk-cut _ _ _ _ _ _ _ _ _ _ (w .write .ensures) (t .loop-test .taken) (c .enum-told .given .1) a f
+    λ a f. t .before .loop .inv .6 a f ∙ chunk-cut _ _ _ _ _ _ _ _ _ _ _ (w .write .ensures) (t .loop-test .taken) (c .enum-told .given .1) a f
 
 add-at : tie.Need-add-at Inv-loop μ-loop
 add-at c =
@@ -85,14 +85,14 @@ loop-again c =
       search needs,
       search needs,
       search needs,
-      λ a f. t .before .loop .inv .6 a f ∙ chunk-on _ _ _ _ _ _ _ _ _ _ (w .write .ensures) (t .loop-test .taken) _ (o .rest .given .1) a f,
+      λ a f. t .before .loop .inv .6 a f ∙ chunk-on _ _ _ _ _ _ _ _ _ _ _ (w .write .ensures) (t .loop-test .taken) _ (o .rest .given .1) a f,
     )
 
 same-length-2 : tie.Need-same-length-2 Inv-loop μ-loop
 same-length-2 c = search needs
 
 returns-2 : tie.Need-returns-2 Inv-loop μ-loop
-returns-2 c = λ a f. c .before .loop .inv .6 a f ∙ chunk-end _ _ _ _ _ _ _ _ (c .loop-test .left) a f
+returns-2 c = λ a f. c .before .loop .inv .6 a f ∙ chunk-end _ _ _ _ _ _ _ _ _ (c .loop-test .left) a f
 
 pub copy-chunks-spec : {M : Type 1} → statement M
 copy-chunks-spec =

@@ -3,6 +3,9 @@ use borrow.Author.Needs.{needs}
 use Rattle.state_area.proofs.renew.Statement.{statement}
 use Rattle.state_area.proofs.renew.Tie as tie
 
+cell-requires : tie.Need-cell-requires
+cell-requires c κs = search needs
+
 cast-erase : tie.Need-cast-erase
 cast-erase c = search needs
 
@@ -20,8 +23,9 @@ same-length c = search needs
 
 returns : tie.Need-returns
 returns c =
-    let a = c .before .before .before .before .before .before .before .before .args in
-    renew-cut _ (a .z) (a .magic) (a .state .now) _ _ (c .before .before .before .before .erase .ensures) (c .enum-told .given .1)
+    let e = c .before .before .before .before .before .before .before in
+    let a = e .before .before .args in
+    renew-cut _ (a .z) (a .magic) (a .state .now) _ _ _ (e .cell .ensures) (c .before .before .before .before .erase .ensures) (c .enum-told .given .1)
 
 word-offset-requires : tie.Need-word-offset-requires
 word-offset-requires c κs = search needs
@@ -40,13 +44,15 @@ returns-2 c =
     let w = c .before .before .before .before .before in
     let o = w .before .before in
     let e = o .before .before .before .before in
-    let a = e .before .before .before .before .args in
-    renew-on _ (a .z) (a .magic) (a .state .now) _ _ (e .erase .ensures) _ _ _ (o .rest .given .1) (w .word-offset .ensures) (c .before .before .write-word .ensures)
+    let h = e .before .before .before in
+    let a = h .before .before .args in
+    renew-on _ (a .z) (a .magic) (a .state .now) _ _ _ (h .cell .ensures) (e .erase .ensures) _ _ _ (o .rest .given .1) (w .word-offset .ensures) (c .before .before .write-word .ensures)
 
 pub renew-spec : {M : Type 1} → statement M
 renew-spec =
     tie.close
     (tie.spec
+    cell-requires
     cast-erase
     erase-requires
     enum-known-rest

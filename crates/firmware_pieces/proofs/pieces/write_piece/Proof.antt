@@ -23,13 +23,13 @@ returns : tie.Need-returns
 returns c =
     let i = c .before .before .before .before in
     let e = sym (i .before .is-last .ensures) ∙ i .if1 .taken in
-    (piece-again _ _ _ _ e (c .before .before .write .ensures), λ l o. last-is _ e)
+    (piece-again _ _ _ _ _ e (c .before .before .write .ensures), λ l o. last-is _ e)
 
 mul-start : tie.Need-mul-start
 mul-start c = search needs
 
-add-t19 : tie.Need-add-t19
-add-t19 c = search needs
+add-t20 : tie.Need-add-t20
+add-t20 c = search needs
 
 erase-requires : tie.Need-erase-requires
 erase-requires c κs = search needs
@@ -47,7 +47,7 @@ returns-2 : tie.Need-returns-2
 returns-2 c =
     let i = c .before .before .before .before .before .before in
     let a = i .before .before .before .before .before in (
-      piece-cut (a .args .ed) (a .args .offset .0) (a .args .piece .now) _ (sym (i .before .is-last .ensures) ∙ i .if1 .left) (a .pre .0)
+      piece-cut _ (a .args .ed) (a .args .offset .0) (a .args .piece .now) _ (sym (i .before .is-last .ensures) ∙ i .if1 .left) (a .pre .0)
           (c .before .before .before .before .erase .ensures) (c .enum-told .given .1),
       λ l o. (let z : _≡_ {A = ℕ} 0 1 = cc in absurd (omega arith)),
     )
@@ -64,7 +64,7 @@ returns-3 c =
     let e = o .before .before .before .before in
     let i = e .before .before in
     let a = i .before .before .before .before .before in (
-      piece-on (a .args .ed) (a .args .offset .0) (a .args .piece .now) _ (sym (i .before .is-last .ensures) ∙ i .if1 .left) (a .pre .0)
+      piece-on _ (a .args .ed) (a .args .offset .0) (a .args .piece .now) _ (sym (i .before .is-last .ensures) ∙ i .if1 .left) (a .pre .0)
           (e .erase .ensures) (o .rest .given .1) (c .before .before .write2 .ensures),
       λ l p. refl,
     )
@@ -79,7 +79,7 @@ write-piece-spec =
     same-length
     returns
     mul-start
-    add-t19
+    add-t20
     erase-requires
     enum-known-rest
     enum-told

@@ -14,12 +14,12 @@ use Rattle.firmware_pieces.proofs.pieces.write_pieces.Statement.{statem
 use Rattle.firmware_pieces.proofs.pieces.write_pieces.Tie as tie
 
 abbrev Inv-loop : tie.InvT-loop
-Inv-loop dfu₀ ed «data» done₀ at₀ memory₀ still₀ dfu done at memory still = (done ≤ length «data») × (at ≡ at₀ + done) × (length dfu ≡ length dfu₀)
-    × ((m₂ : Sector) (xs₂ : List ℕ) (q : Flow) → WroteBy (still .0) ed (restOps ed memory at done «data») memory m₂ dfu xs₂ q
-    → WroteBy (still₀ .0) ed (restOps ed memory₀ at₀ 0 «data») memory₀ m₂ dfu₀ xs₂ q)
+Inv-loop dfu₀ ed cell «data» done₀ at₀ memory₀ still₀ dfu done at memory still = (done ≤ length «data») × (at ≡ at₀ + done) × (length dfu ≡ length dfu₀)
+    × ((m₂ : Sector) (xs₂ : List ℕ) (q : Flow) → WroteBy (still .0) ed (restOps cell ed memory at done «data») memory m₂ dfu xs₂ q
+    → WroteBy (still₀ .0) ed (restOps cell ed memory₀ at₀ 0 «data») memory₀ m₂ dfu₀ xs₂ q)
 
 abbrev μ-loop : tie.MeasureT-loop
-μ-loop dfu₀ ed «data» done₀ at₀ memory₀ still₀ dfu done at memory still = length «data» - done
+μ-loop dfu₀ ed cell «data» done₀ at₀ memory₀ still₀ dfu done at memory still = length «data» - done
 
 loop-holds : tie.Need-loop-holds Inv-loop μ-loop
 loop-holds c = (omega arith, omega arith, refl, λ m xs q w. w)
@@ -69,7 +69,7 @@ returns c =
     let i = l .before .before in
     let s = i .before .before .before in
     i .loop .inv .3 _ _ _
-    (rest-cut _ _ _ (s .pre .0) (l .before .loop-test .taken) (l .piece-length .ensures .0) (w .write-piece .ensures .0) (c .enum-told .given .1))
+    (rest-cut _ _ _ _ (s .pre .0) (l .before .loop-test .taken) (l .piece-length .ensures .0) (w .write-piece .ensures .0) (c .enum-told .given .1))
 
 add-at : tie.Need-add-at Inv-loop μ-loop
 add-at c =
@@ -93,14 +93,14 @@ loop-again c =
       search needs,
       search needs,
       λ m xs q v. i .loop .inv .3 _ _ _
-          (rest-on _ _ _ (s .pre .0) (l .before .loop-test .taken) (l .piece-length .ensures .0) (w .write-piece .ensures .0) o (w .write-piece .ensures .1 _ o) v),
+          (rest-on _ _ _ _ (s .pre .0) (l .before .loop-test .taken) (l .piece-length .ensures .0) (w .write-piece .ensures .0) o (w .write-piece .ensures .1 _ o) v),
     )
 
 same-length-2 : tie.Need-same-length-2 Inv-loop μ-loop
 same-length-2 c = search needs
 
 returns-2 : tie.Need-returns-2 Inv-loop μ-loop
-returns-2 c = c .before .loop .inv .3 _ _ _ (rest-end _ _ _ (c .loop-test .left))
+returns-2 c = c .before .loop .inv .3 _ _ _ (rest-end _ _ _ _ (c .loop-test .left))
 
 pub write-pieces-spec : {M : Type 1} → statement M
 write-pieces-spec =

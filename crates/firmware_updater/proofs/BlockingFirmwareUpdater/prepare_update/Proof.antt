@@ -27,6 +27,9 @@ enum-told c = search needs
 cast-unit : tie.Need-cast-unit
 cast-unit c = search needs
 
+cell-requires : tie.Need-cell-requires
+cell-requires c κs = search needs
+
 erase-requires : tie.Need-erase-requires
 erase-requires c κs = search needs
 
@@ -42,13 +45,13 @@ same-length c = search needs
 returns-2 : tie.Need-returns-2
 returns-2 c =
     let e = c .before .before .before .before in
-    let t = e .before .before .before in
+    let t = e .before .before .before .before in
     let j = t .before .before in
     let a = j .before .before .before .args in
-    update-cut (a .self) (a .dfu .now) (a .state .now) (j .booted-verdict .ensures) (t .enum-told .given .1) (e .erase .ensures) (c .enum-told2 .given .1)
+    update-cut (a .self) (a .dfu .now) (a .state .now) (j .booted-verdict .ensures) (t .enum-told .given .1) (e .before .before .cell .ensures) (e .erase .ensures) (c .enum-told2 .given .1)
 
-sub-t19 : tie.Need-sub-t19
-sub-t19 c =
+sub-t20 : tie.Need-sub-t20
+sub-t20 c =
     on-low _ _ _ _ _ (ran _ _ _ _ _ (c .before .before .before .before .before .before .erase .ensures dfu (flash [] [] []))) _
     (c .before .before .rest .given .1)
 
@@ -59,10 +62,10 @@ returns-3 : tie.Need-returns-3
 returns-3 c =
     let f = c .before .before in
     let e = f .before .before .before .before in
-    let t = e .before .before .before in
+    let t = e .before .before .before .before in
     let j = t .before .before in
     let a = j .before .before .before .args in
-    update-done (a .self) (a .dfu .now) (a .state .now) (j .booted-verdict .ensures) (t .enum-told .given .1) (e .erase .ensures) (f .rest .given .1)
+    update-done (a .self) (a .dfu .now) (a .state .now) (j .booted-verdict .ensures) (t .enum-told .given .1) (e .before .before .cell .ensures) (e .erase .ensures) (f .rest .given .1)
 
 pub prepare-update-spec : {M : Type 1} → statement M
 prepare-update-spec =
@@ -73,11 +76,12 @@ prepare-update-spec =
     returns
     enum-told
     cast-unit
+    cell-requires
     erase-requires
     enum-known-rest
     enum-told-2
     same-length
     returns-2
-    sub-t19
+    sub-t20
     same-length-2
     returns-3)

@@ -25,9 +25,12 @@ enum-told c = search needs
 cast-write-pieces : tie.Need-cast-write-pieces
 cast-write-pieces c = search needs
 
+cell-requires : tie.Need-cell-requires
+cell-requires c κs = search needs
+
 write-pieces-requires : tie.Need-write-pieces-requires
 write-pieces-requires c κs =
-    let t = c .before .before .before in
+    let t = c .before .before .before .before in
     let j = t .before .before in
     let a = j .before .before .before .before .args in
     firmware-room (a .self) (a .dfu .now) (a .state .now) (a .offset .0) (a .«data» .now) (j .write-verdict .ensures) (t .enum-told .given .1)
@@ -44,14 +47,14 @@ same-length c = search needs
 returns-2 : tie.Need-returns-2
 returns-2 c =
     let w = c .before .before .before .before in
-    let t = w .before .before .before .before in
+    let t = w .before .before .before .before .before in
     let j = t .before .before in
     let a = j .before .before .before .before .args in
     firmware-cut (a .self) (a .dfu .now) (a .state .now) (a .offset .0) (a .«data» .now) (j .write-verdict .ensures) (t .enum-told .given .1)
-    (w .write-pieces .ensures) (c .enum-told2 .given .1)
+    (w .before .cell .ensures) (w .write-pieces .ensures) (c .enum-told2 .given .1)
 
-sub-t23 : tie.Need-sub-t23
-sub-t23 c =
+sub-t24 : tie.Need-sub-t24
+sub-t24 c =
     on-low _ _ _ _ _ (ran _ _ _ _ _ (c .before .before .before .before .before .before .write-pieces .ensures .flash [] [])) _
     (c .before .before .flow .given .1)
 
@@ -62,11 +65,11 @@ returns-3 : tie.Need-returns-3
 returns-3 c =
     let f = c .before .before in
     let w = f .before .before .before .before in
-    let t = w .before .before .before .before in
+    let t = w .before .before .before .before .before in
     let j = t .before .before in
     let a = j .before .before .before .before .args in
     firmware-done (a .self) (a .dfu .now) (a .state .now) (a .offset .0) (a .«data» .now) (j .write-verdict .ensures) (t .enum-told .given .1)
-    (w .write-pieces .ensures) (f .flow .given .1)
+    (w .before .cell .ensures) (w .write-pieces .ensures) (f .flow .given .1)
 
 pub write-firmware-spec : {M : Type 1} → statement M
 write-firmware-spec =
@@ -77,11 +80,12 @@ write-firmware-spec =
     returns
     enum-told
     cast-write-pieces
+    cell-requires
     write-pieces-requires
     enum-known-flow
     enum-told-2
     same-length
     returns-2
-    sub-t23
+    sub-t24
     same-length-2
     returns-3)
