@@ -11,11 +11,16 @@
  * and state (what is to be done, and how far it is). An erase sets a unit's bytes to FF. A write can only clear bits: each byte
  * becomes old AND new. Each erased unit is one operation, and so is each write. Reading costs nothing.
  *
- * Sizes, in bytes (`struct eb_geometry` below holds all seven):
+ * Of flash that erases to 00 the same is said with FF and 00 exchanged: an erase sets bytes to 00, a write can only set bits, each
+ * byte becomes old OR new, and marks are FF. Which of the two it is, every call is told by the number after its sizes.
+ *
+ * Sizes, in bytes (`struct eb_geometry` below holds all eight numbers):
  *   ea, wa   erase and write size of active            ACTIVE::ERASE_SIZE, ACTIVE::WRITE_SIZE in the crate
  *   ed, wd   erase and write size of DFU               DFU::ERASE_SIZE, DFU::WRITE_SIZE; an erase unit of DFU is a sector
  *   es, ws   erase and write size of the state area    STATE::ERASE_SIZE, STATE::WRITE_SIZE; ws bytes are a state word
  *   b        the chunk in which a page is copied       aligned_buf.len()
+ * And no size:
+ *   ev       the erase value of all areas, 255 or 0    0 is the crate's switch flash-erase-zero
  * P, the page, is the least common multiple of ea and ed: the larger where one divides the other. N is the number of pages in
  * active, T the number of words in the state area.
  *
@@ -52,7 +57,8 @@ static inline uint32_t eb_operations(uint64_t result) { return (uint32_t)result;
 enum {
     EB_DONE = 0,
 
-    /* A size that the call reads is 0 or above 65,536, or a flash area that it is lent is longer than 16,777,216 bytes. */
+    /* A size that the call reads is 0 or above 65,536, or ev is neither 255 nor 0, or a flash area that the call is lent is longer
+     * than 16,777,216 bytes. */
     EB_LIMIT = 1,
 
     /* eb_prepare_boot: the page P is above 1,048,576, or no multiple of one of wa, wd and b; or b is no multiple of wa or of wd; or
@@ -108,27 +114,32 @@ static inline const char *eb_state_name(uint32_t state)
 /* The updater's memory where no sector was erased yet. */
 #define EB_NO_SECTOR UINT32_C(4294967295)
 
+/* The two erase values. */
+#define EB_ERASES_TO_FF UINT32_C(255)
+#define EB_ERASES_TO_00 UINT32_C(0)
+
 /* ---- The boot loader ---- */
 
 /* To be called at each start, before the active image is run; and after a cut again, before anything is run, for active may be half
- * old and half new then. What it does is told by the state area alone. Word 0 holds the state, word 1 the validity, word 2 + i the
- * mark of step i, of 4N steps; marks are counted from the first one up to the first that is open.
+ * old and half new then. What it does is told by the state area alone. Word 0 holds the state, word 1 the validity, which is
+ * there while the word is erased, word 2 + i the mark of step i, of 4N steps, which is open while it has an erased byte; marks are
+ * counted from the first one up to the first that is open.
  *
  *   Boot, Revert or DfuDetach: nothing, 0 operations.
- *   Swap, validity FF, fewer than 2N marks: the swap, from its first open step on. From a fresh mark, whatever cuts fell, it ends
- *     with active holding what DFU held, and DFU what active held, a page further on.
- *   Swap, validity FF, 2N marks or more: the swap is done and nobody confirmed it, so it is undone from its first open step on, and
- *     the state becomes Revert. Active is then as before the swap.
+ *   Swap, validity there, fewer than 2N marks: the swap, from its first open step on. From a fresh mark, whatever cuts fell, it
+ *     ends with active holding what DFU held, and DFU what active held, a page further on.
+ *   Swap, validity there, 2N marks or more: the swap is done and nobody confirmed it, so it is undone from its first open step on,
+ *     and the state becomes Revert. Active is then as before the swap.
  *   Swap, validity gone, 2N to 4N - 1 marks: mark_booted was cut. It is finished: the state becomes Boot, no image is changed.
  *   Swap, validity gone, any other count: the state becomes Revert, no image is changed. So ends a revert that was cut at its end.
  *
  * Carries the state read at entry: EB_SWAP after a revert too. Refusals: 1, 2, 3, 4. */
 EB_RESULT uint64_t eb_prepare_boot(uint8_t *active, size_t active_length, uint8_t *dfu, size_t dfu_length, uint8_t *state,
                                    size_t state_length, uint32_t ea, uint32_t wa, uint32_t ed, uint32_t wd, uint32_t es,
-                                   uint32_t ws, uint32_t b, uint32_t budget);
+                                   uint32_t ws, uint32_t b, uint32_t ev, uint32_t budget);
 
 /* The state that the state area holds. 0 operations. Refusals: 1, 4, with T >= 2 as for every call but a boot. */
-EB_RESULT uint64_t eb_read_state(const uint8_t *state, size_t state_length, uint32_t es, uint32_t ws);
+EB_RESULT uint64_t eb_read_state(const uint8_t *state, size_t state_length, uint32_t es, uint32_t ws, uint32_t ev);
 
 /* ---- The state area, from the application ----
  *
@@ -137,18 +148,20 @@ EB_RESULT uint64_t eb_read_state(const uint8_t *state, size_t state_length, uint
  * writes the magic. A mark that is cut is made by calling again; until then the state reads as it did, or Boot. */
 
 /* The same answer as eb_read_state, under the application's name for it. */
-EB_RESULT uint64_t eb_state_get_state(const uint8_t *state, size_t state_length, uint32_t es, uint32_t ws);
+EB_RESULT uint64_t eb_state_get_state(const uint8_t *state, size_t state_length, uint32_t es, uint32_t ws, uint32_t ev);
 
 /* The next boot swaps the images. On a device whose swap is done and not confirmed the state is Swap already: there this does
  * nothing, and the next boot takes the swap back. Confirm first. */
-EB_RESULT uint64_t eb_state_mark_updated(uint8_t *state, size_t state_length, uint32_t es, uint32_t ws, uint32_t budget);
+EB_RESULT uint64_t eb_state_mark_updated(uint8_t *state, size_t state_length, uint32_t es, uint32_t ws, uint32_t ev,
+                                         uint32_t budget);
 
 /* The next boot answers EB_DFU_DETACH and leaves the rest to the caller. Nothing is asked: a swap that is pending is forgotten. */
-EB_RESULT uint64_t eb_state_mark_dfu(uint8_t *state, size_t state_length, uint32_t es, uint32_t ws, uint32_t budget);
+EB_RESULT uint64_t eb_state_mark_dfu(uint8_t *state, size_t state_length, uint32_t es, uint32_t ws, uint32_t ev, uint32_t budget);
 
 /* The firmware that runs is confirmed: the next boot does not undo the swap. Only firmware that was started after a boot that was
  * done may say so. Said from outside after a boot that was cut, it can keep a mixture of both images (docs/DIFFERENCES.md). */
-EB_RESULT uint64_t eb_state_mark_booted(uint8_t *state, size_t state_length, uint32_t es, uint32_t ws, uint32_t budget);
+EB_RESULT uint64_t eb_state_mark_booted(uint8_t *state, size_t state_length, uint32_t es, uint32_t ws, uint32_t ev,
+                                        uint32_t budget);
 
 /* ---- The updater ----
  *
@@ -156,18 +169,18 @@ EB_RESULT uint64_t eb_state_mark_booted(uint8_t *state, size_t state_length, uin
 
 /* The four calls of the state area. The updater's mark_dfu is refused with 5 while a swap is pending. */
 EB_RESULT uint64_t eb_updater_get_state(const uint8_t *dfu, size_t dfu_length, const uint8_t *state, size_t state_length,
-                                        uint32_t ed, uint32_t wd, uint32_t es, uint32_t ws);
+                                        uint32_t ed, uint32_t wd, uint32_t es, uint32_t ws, uint32_t ev);
 EB_RESULT uint64_t eb_updater_mark_updated(const uint8_t *dfu, size_t dfu_length, uint8_t *state, size_t state_length,
-                                           uint32_t ed, uint32_t wd, uint32_t es, uint32_t ws, uint32_t budget);
+                                           uint32_t ed, uint32_t wd, uint32_t es, uint32_t ws, uint32_t ev, uint32_t budget);
 EB_RESULT uint64_t eb_updater_mark_dfu(const uint8_t *dfu, size_t dfu_length, uint8_t *state, size_t state_length, uint32_t ed,
-                                       uint32_t wd, uint32_t es, uint32_t ws, uint32_t budget);
+                                       uint32_t wd, uint32_t es, uint32_t ws, uint32_t ev, uint32_t budget);
 EB_RESULT uint64_t eb_updater_mark_booted(const uint8_t *dfu, size_t dfu_length, uint8_t *state, size_t state_length,
-                                          uint32_t ed, uint32_t wd, uint32_t es, uint32_t ws, uint32_t budget);
+                                          uint32_t ed, uint32_t wd, uint32_t es, uint32_t ws, uint32_t ev, uint32_t budget);
 
 /* Fills out with the bytes of DFU from offset on; the offset need not stand on a write unit. 0 operations. Also refused: 6. */
 EB_RESULT uint64_t eb_updater_read_dfu(const uint8_t *dfu, size_t dfu_length, const uint8_t *state, size_t state_length,
-                                       uint32_t ed, uint32_t wd, uint32_t es, uint32_t ws, uint32_t offset, uint8_t *out,
-                                       size_t out_length);
+                                       uint32_t ed, uint32_t wd, uint32_t es, uint32_t ws, uint32_t ev, uint32_t offset,
+                                       uint8_t *out, size_t out_length);
 
 /* Writes data at offset of DFU, in pieces up to each sector's end: the sector is erased unless it is the one last erased, then the
  * piece is written, an operation each. *last is that memory: start an update with EB_NO_SECTOR and hand the same variable to each
@@ -176,13 +189,13 @@ EB_RESULT uint64_t eb_updater_read_dfu(const uint8_t *dfu, size_t dfu_length, co
  * Empty data is done with 0 operations, at any offset. Also refused: 6, and 5 while a swap is pending, so that an update that was
  * swapped in must be confirmed before the next one is written. */
 EB_RESULT uint64_t eb_updater_write_firmware(uint8_t *dfu, size_t dfu_length, const uint8_t *state, size_t state_length,
-                                             uint32_t ed, uint32_t wd, uint32_t es, uint32_t ws, uint64_t offset,
+                                             uint32_t ed, uint32_t wd, uint32_t es, uint32_t ws, uint32_t ev, uint64_t offset,
                                              const uint8_t *data, size_t data_length, uint32_t *last, uint32_t budget);
 
 /* Erases all of DFU, unit by unit: an operation each. eb_updater_write_firmware's memory has no part in it. Also refused: 5 while a
  * swap is pending. */
 EB_RESULT uint64_t eb_updater_prepare_update(uint8_t *dfu, size_t dfu_length, const uint8_t *state, size_t state_length,
-                                             uint32_t ed, uint32_t wd, uint32_t es, uint32_t ws, uint32_t budget);
+                                             uint32_t ed, uint32_t wd, uint32_t es, uint32_t ws, uint32_t ev, uint32_t budget);
 
 /* ---- A word ---- */
 
@@ -190,10 +203,18 @@ EB_RESULT uint64_t eb_updater_prepare_update(uint8_t *dfu, size_t dfu_length, co
  * all read EB_SWAP. */
 EB_RESULT uint32_t eb_state_from(const uint8_t *bytes, size_t length);
 
-/* ---- The same calls with the sizes in a record ----
+/* ---- The same calls with the numbers in a record ----
  *
- * `NAME_with` is NAME with the record in the numbers' place; it reads the fields that NAME names and no others. Fill it by names,
- * as in {.ea = 4096, .wa = 8, ..}. */
+ * `NAME_with` is NAME with the record in the numbers' place; it reads the fields that NAME names and no others.
+ *
+ * Fill it by EB_GEOMETRY, which asks for the erase value first and takes the sizes by their names:
+ *
+ *   const struct eb_geometry g = EB_GEOMETRY(EB_ERASES_TO_FF, .ea = 4096, .wa = 8, ..);
+ *
+ * Beware of a bare {.ea = 4096, .wa = 8, ..}: a field that is left out is 0. A size of 0 is refused, but an ev of 0 is not: it is
+ * flash that erases to 00. Without the erase value EB_GEOMETRY does not compile. */
+#define EB_GEOMETRY(value, ...) {__VA_ARGS__, .ev = (value)}
+
 struct eb_geometry {
     uint32_t ea; /* active: erase size */
     uint32_t wa; /* active: write size */
@@ -202,6 +223,7 @@ struct eb_geometry {
     uint32_t es; /* state area: erase size */
     uint32_t ws; /* state area: write size, a word */
     uint32_t b;  /* the chunk in which a page is copied */
+    uint32_t ev; /* the erase value: EB_ERASES_TO_FF or EB_ERASES_TO_00 */
 };
 
 EB_RESULT static inline uint64_t eb_prepare_boot_with(uint8_t *active, size_t active_length, uint8_t *dfu, size_t dfu_length,
@@ -209,71 +231,71 @@ EB_RESULT static inline uint64_t eb_prepare_boot_with(uint8_t *active, size_t ac
                                                       uint32_t budget)
 {
     return eb_prepare_boot(active, active_length, dfu, dfu_length, state, state_length, g->ea, g->wa, g->ed, g->wd, g->es, g->ws,
-                           g->b, budget);
+                           g->b, g->ev, budget);
 }
 EB_RESULT static inline uint64_t eb_read_state_with(const uint8_t *state, size_t state_length, const struct eb_geometry *g)
 {
-    return eb_read_state(state, state_length, g->es, g->ws);
+    return eb_read_state(state, state_length, g->es, g->ws, g->ev);
 }
 
 EB_RESULT static inline uint64_t eb_state_get_state_with(const uint8_t *state, size_t state_length, const struct eb_geometry *g)
 {
-    return eb_state_get_state(state, state_length, g->es, g->ws);
+    return eb_state_get_state(state, state_length, g->es, g->ws, g->ev);
 }
 EB_RESULT static inline uint64_t eb_state_mark_updated_with(uint8_t *state, size_t state_length, const struct eb_geometry *g,
                                                             uint32_t budget)
 {
-    return eb_state_mark_updated(state, state_length, g->es, g->ws, budget);
+    return eb_state_mark_updated(state, state_length, g->es, g->ws, g->ev, budget);
 }
 EB_RESULT static inline uint64_t eb_state_mark_dfu_with(uint8_t *state, size_t state_length, const struct eb_geometry *g,
                                                         uint32_t budget)
 {
-    return eb_state_mark_dfu(state, state_length, g->es, g->ws, budget);
+    return eb_state_mark_dfu(state, state_length, g->es, g->ws, g->ev, budget);
 }
 EB_RESULT static inline uint64_t eb_state_mark_booted_with(uint8_t *state, size_t state_length, const struct eb_geometry *g,
                                                            uint32_t budget)
 {
-    return eb_state_mark_booted(state, state_length, g->es, g->ws, budget);
+    return eb_state_mark_booted(state, state_length, g->es, g->ws, g->ev, budget);
 }
 
 EB_RESULT static inline uint64_t eb_updater_get_state_with(const uint8_t *dfu, size_t dfu_length, const uint8_t *state,
                                                            size_t state_length, const struct eb_geometry *g)
 {
-    return eb_updater_get_state(dfu, dfu_length, state, state_length, g->ed, g->wd, g->es, g->ws);
+    return eb_updater_get_state(dfu, dfu_length, state, state_length, g->ed, g->wd, g->es, g->ws, g->ev);
 }
 EB_RESULT static inline uint64_t eb_updater_mark_updated_with(const uint8_t *dfu, size_t dfu_length, uint8_t *state,
                                                               size_t state_length, const struct eb_geometry *g, uint32_t budget)
 {
-    return eb_updater_mark_updated(dfu, dfu_length, state, state_length, g->ed, g->wd, g->es, g->ws, budget);
+    return eb_updater_mark_updated(dfu, dfu_length, state, state_length, g->ed, g->wd, g->es, g->ws, g->ev, budget);
 }
 EB_RESULT static inline uint64_t eb_updater_mark_dfu_with(const uint8_t *dfu, size_t dfu_length, uint8_t *state,
                                                           size_t state_length, const struct eb_geometry *g, uint32_t budget)
 {
-    return eb_updater_mark_dfu(dfu, dfu_length, state, state_length, g->ed, g->wd, g->es, g->ws, budget);
+    return eb_updater_mark_dfu(dfu, dfu_length, state, state_length, g->ed, g->wd, g->es, g->ws, g->ev, budget);
 }
 EB_RESULT static inline uint64_t eb_updater_mark_booted_with(const uint8_t *dfu, size_t dfu_length, uint8_t *state,
                                                              size_t state_length, const struct eb_geometry *g, uint32_t budget)
 {
-    return eb_updater_mark_booted(dfu, dfu_length, state, state_length, g->ed, g->wd, g->es, g->ws, budget);
+    return eb_updater_mark_booted(dfu, dfu_length, state, state_length, g->ed, g->wd, g->es, g->ws, g->ev, budget);
 }
 EB_RESULT static inline uint64_t eb_updater_read_dfu_with(const uint8_t *dfu, size_t dfu_length, const uint8_t *state,
                                                           size_t state_length, const struct eb_geometry *g, uint32_t offset,
                                                           uint8_t *out, size_t out_length)
 {
-    return eb_updater_read_dfu(dfu, dfu_length, state, state_length, g->ed, g->wd, g->es, g->ws, offset, out, out_length);
+    return eb_updater_read_dfu(dfu, dfu_length, state, state_length, g->ed, g->wd, g->es, g->ws, g->ev, offset, out, out_length);
 }
 EB_RESULT static inline uint64_t eb_updater_write_firmware_with(uint8_t *dfu, size_t dfu_length, const uint8_t *state,
                                                                 size_t state_length, const struct eb_geometry *g,
                                                                 uint64_t offset, const uint8_t *data, size_t data_length,
                                                                 uint32_t *last, uint32_t budget)
 {
-    return eb_updater_write_firmware(dfu, dfu_length, state, state_length, g->ed, g->wd, g->es, g->ws, offset, data, data_length,
-                                     last, budget);
+    return eb_updater_write_firmware(dfu, dfu_length, state, state_length, g->ed, g->wd, g->es, g->ws, g->ev, offset, data,
+                                     data_length, last, budget);
 }
 EB_RESULT static inline uint64_t eb_updater_prepare_update_with(uint8_t *dfu, size_t dfu_length, const uint8_t *state,
                                                                 size_t state_length, const struct eb_geometry *g, uint32_t budget)
 {
-    return eb_updater_prepare_update(dfu, dfu_length, state, state_length, g->ed, g->wd, g->es, g->ws, budget);
+    return eb_updater_prepare_update(dfu, dfu_length, state, state_length, g->ed, g->wd, g->es, g->ws, g->ev, budget);
 }
 
 #ifdef __cplusplus

@@ -6,8 +6,11 @@
 //! build's own folder. A line that is expected and isn't there stops the build: then the source is another
 //! one, and this file has to be looked at again.
 //!
-//! mem_flash.rs is altered in the same way, in its write only: that copy serves the benchmark, where no budget
-//! is used. The comparison runs on src/mem_flash.rs, whose areas have their length at run time.
+//! mem_flash.rs is altered in the same way, in its write, and in its erase to follow the erase value: that copy serves
+//! the benchmark, where no budget is used. The comparison runs on src/mem_flash.rs, whose areas have their length at
+//! run time.
+//!
+//! Two packages run this script, `original` and `original_zero`; which one it is decides the text's own switch alone.
 
 use std::path::{Path, PathBuf};
 use std::process::exit;
@@ -28,7 +31,8 @@ enum Rule<'a> {
 fn main() {
     let source = source_folder();
     let out = PathBuf::from(env::var("OUT_DIR").expect("cargo sets OUT_DIR"));
-    let here = PathBuf::from(env::var("CARGO_MANIFEST_DIR").expect("cargo sets CARGO_MANIFEST_DIR"));
+    let package = PathBuf::from(env::var("CARGO_MANIFEST_DIR").expect("cargo sets CARGO_MANIFEST_DIR"));
+    let absent = package.join("../original/src/absent");
 
     let updater = out.join("firmware_updater.rs");
     let root_rules = [
@@ -38,12 +42,12 @@ fn main() {
         Rule::Drop("mod mem_flash;"),
         Rule::Drop("mod test_flash;"),
         Rule::Drop("mod digest_adapters;"),
-        Rule::Mount("mod fmt;", here.join("src/absent/fmt.rs")),
+        Rule::Mount("mod fmt;", absent.join("fmt.rs")),
         Rule::Mount("mod boot_loader;", source.join("boot_loader.rs")),
         Rule::Mount("mod firmware_updater;", updater.clone()),
     ];
     let updater_rules = [
-        Rule::Mount("mod asynch;", here.join("src/absent/asynch.rs")),
+        Rule::Mount("mod asynch;", absent.join("asynch.rs")),
         Rule::Mount("mod blocking;", source.join("firmware_updater/blocking.rs")),
     ];
     let flash_rules = [
@@ -51,7 +55,11 @@ fn main() {
         // its random fill wants a registry crate
         Rule::Replace("#[cfg(test)]", "#[cfg(any())]"),
         Rule::Replace("assert_eq!(0xFF, *mem_byte", "let _ = offset;"),
-        Rule::Replace("*mem_byte = *new_byte;", "*mem_byte &= *new_byte;"),
+        Rule::Replace(
+            "*mem_byte = *new_byte;",
+            "*mem_byte = crate::mem_flash::written(*mem_byte, *new_byte);",
+        ),
+        Rule::Replace("self.mem[i] = 0xFF;", "self.mem[i] = crate::STATE_ERASE_VALUE;"),
     ];
     rewrite(&source.join("mem_flash.rs"), &flash_rules, &out.join("crate_mem_flash.rs"));
     rewrite(&source.join("lib.rs"), &root_rules, &out.join("embassy_boot.rs"));
@@ -60,7 +68,7 @@ fn main() {
     for file in ["boot_loader.rs", "firmware_updater/blocking.rs"] {
         println!("cargo::rerun-if-changed={}", source.join(file).display());
     }
-    println!("cargo::rerun-if-changed=src/absent");
+    println!("cargo::rerun-if-changed={}", absent.display());
     println!("cargo::rustc-env=EMBASSY_BOOT_SRC_FOUND={}", source.display());
 }
 

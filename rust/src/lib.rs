@@ -2,16 +2,17 @@
 //! done by the proved library behind its C boundary; this crate only hands slices over and takes results apart, so that its users
 //! need no `unsafe`.
 //!
-//! Flash is memory of the caller's: an erase sets bytes to FF, a write lets bits fall. Each erased unit and each write is one
+//! Flash is memory of the caller's: an erase sets bytes to FF, a write lets bits fall. Where the erase value is 0 (the crate's
+//! switch `flash-erase-zero`) an erase sets bytes to 00, and a write lets bits rise. Each erased unit and each write is one
 //! operation, and every call that changes flash takes a budget, the most operations that it may do, as if the power failed after
 //! them; [`FOREVER`] is a budget that no call uses up. Nothing is asked of a caller: what doesn't fit is [refused](Refusal).
 //!
 //! An update, with a boot that is cut and one that is not:
 //!
 //! ```
-//! use embassy_boot_rattle::{Answer, BootLoader, FOREVER, FirmwareUpdater, Geometry, State};
+//! use embassy_boot_rattle::{Answer, BootLoader, ERASES_TO_ONES, FOREVER, FirmwareUpdater, Geometry, State};
 //!
-//! let geometry = Geometry { ea: 4, wa: 2, ed: 4, wd: 2, es: 16, ws: 1, b: 2 };
+//! let geometry = Geometry { ea: 4, wa: 2, ed: 4, wd: 2, es: 16, ws: 1, b: 2, ev: ERASES_TO_ONES };
 //! let (mut active, mut dfu, mut state) = ([1; 12], [0; 16], [0xFF; 16]);
 //!
 //! let mut updater = FirmwareUpdater::new(geometry.sizes());
@@ -41,6 +42,13 @@ pub mod boundary;
 /// The largest budget. No call wants more operations.
 pub const FOREVER: u32 = u32::MAX;
 
+/// The erase value of flash that erases to FF, as most does: a write leaves old AND new, a mark is 00.
+pub const ERASES_TO_ONES: u32 = 255;
+
+/// The erase value of flash that erases to 00, for which the crate has the switch `flash-erase-zero`: a write leaves old OR new, a
+/// mark is FF.
+pub const ERASES_TO_ZEROS: u32 = 0;
+
 /// What the state area says is to be done.
 #[derive(Clone, Copy, PartialEq, Eq, Debug)]
 pub enum State {
@@ -60,7 +68,8 @@ pub enum State {
 /// active, T the number of words in the state area.
 #[derive(Clone, Copy, PartialEq, Eq, Debug)]
 pub enum Refusal {
-    /// 1: a size that the call reads is 0 or above 65,536, or a flash area that it is lent is longer than 16,777,216 bytes.
+    /// 1: a size that the call reads is 0 or above 65,536, or the erase value is neither 255 nor 0, or a flash area that it is lent is
+    /// longer than 16,777,216 bytes.
     Limit,
     /// 2: in a boot, P is above 1,048,576 or no multiple of one of `wa`, `wd` and `b`, or `b` is no multiple of `wa` or of `wd`, or `b` is
     /// below `ws` (the chunk's buffer is the one that a state word goes through in the original). In the updater, `ed` is no
@@ -162,7 +171,9 @@ impl fmt::Display for State {
 impl fmt::Display for Refusal {
     fn fmt(&self, f: &mut fmt::Formatter) -> fmt::Result {
         let why = match self {
-            Refusal::Limit => "a size is 0 or above 65,536, or an area is longer than 16,777,216 bytes",
+            Refusal::Limit => {
+                "a size is 0 or above 65,536, or the erase value is neither 255 nor 0, or an area is longer than 16,777,216 bytes"
+            }
             Refusal::Page => "the sizes don't fit a page",
             Refusal::Area => "an image is no whole number of pages, or DFU isn't a page longer than active",
             Refusal::StateArea => "the state area is no whole number of erase units, or has too few words",
@@ -196,8 +207,8 @@ impl fmt::Display for Answer {
 impl Error for Refusal {}
 impl Error for Stopped {}
 
-/// The sizes of the three areas, and the chunk in which a page is copied, in bytes. Which of them go together is said at
-/// [`Refusal::Page`] and [`Refusal::StateArea`].
+/// The sizes of the three areas, and the chunk in which a page is copied, in bytes; and the value that the flash erases to. Which
+/// sizes go together is said at [`Refusal::Page`] and [`Refusal::StateArea`].
 #[derive(Clone, Copy, PartialEq, Eq, Debug)]
 pub struct Geometry {
     /// Active: the erase size, `ACTIVE::ERASE_SIZE` of the original.
@@ -214,17 +225,19 @@ pub struct Geometry {
     pub ws: u32,
     /// The chunk in which a page is copied, the length of the original's `aligned_buf`.
     pub b: u32,
+    /// The erase value of all three areas, [`ERASES_TO_ONES`] or [`ERASES_TO_ZEROS`]; any other number is refused.
+    pub ev: u32,
 }
 
 impl Geometry {
-    /// The sizes that the updater reads.
+    /// What the updater reads of it.
     pub const fn sizes(self) -> Sizes {
-        Sizes { ed: self.ed, wd: self.wd, es: self.es, ws: self.ws }
+        Sizes { ed: self.ed, wd: self.wd, es: self.es, ws: self.ws, ev: self.ev }
     }
 
     /// The state area of this geometry.
     pub const fn firmware_state(self) -> FirmwareState {
-        FirmwareState { es: self.es, ws: self.ws }
+        FirmwareState { es: self.es, ws: self.ws, ev: self.ev }
     }
 }
 
@@ -293,10 +306,11 @@ impl BootLoader {
     /// Refusals: [`Limit`](Refusal::Limit), [`Page`](Refusal::Page), [`Area`](Refusal::Area), [`StateArea`](Refusal::StateArea).
     ///
     /// ```
-    /// use embassy_boot_rattle::{Answer, BootLoader, FOREVER, Geometry, Refusal};
+    /// use embassy_boot_rattle::{Answer, BootLoader, ERASES_TO_ONES, FOREVER, Geometry, Refusal};
     ///
     /// // chunks of one byte, and state words of two: no buffer holds a word
-    /// let loader = BootLoader::new(Geometry { ea: 4, wa: 1, ed: 4, wd: 1, es: 16, ws: 2, b: 1 });
+    /// let geometry = Geometry { ea: 4, wa: 1, ed: 4, wd: 1, es: 16, ws: 2, b: 1, ev: ERASES_TO_ONES };
+    /// let loader = BootLoader::new(geometry);
     /// let answer = loader.prepare_boot(&mut [1; 4], &mut [2; 8], &mut [0xFF; 16], FOREVER);
     /// assert_eq!(answer, Answer::Refused(Refusal::Page));
     /// ```
@@ -321,6 +335,8 @@ pub struct FirmwareState {
     pub es: u32,
     /// The write size, `STATE::WRITE_SIZE`; so many bytes are a word.
     pub ws: u32,
+    /// The erase value, as in [`Geometry`].
+    pub ev: u32,
 }
 
 impl FirmwareState {
@@ -348,7 +364,7 @@ impl FirmwareState {
     }
 }
 
-/// The sizes that the updater reads, in bytes.
+/// The sizes that the updater reads, in bytes, and the erase value.
 #[derive(Clone, Copy, PartialEq, Eq, Debug)]
 pub struct Sizes {
     /// DFU: the erase size, a sector.
@@ -359,6 +375,8 @@ pub struct Sizes {
     pub es: u32,
     /// State area: the write size, a word.
     pub ws: u32,
+    /// The erase value of both areas, as in [`Geometry`].
+    pub ev: u32,
 }
 
 /// The application's side of an update. It remembers the sector that it erased last: take a new one for each update.
@@ -367,9 +385,9 @@ pub struct Sizes {
 /// [`StateArea`](Refusal::StateArea), and what is said with it.
 ///
 /// ```
-/// use embassy_boot_rattle::{Answer, FOREVER, FirmwareUpdater, Refusal, Sizes};
+/// use embassy_boot_rattle::{Answer, ERASES_TO_ONES, FOREVER, FirmwareUpdater, Refusal, Sizes};
 ///
-/// let mut updater = FirmwareUpdater::new(Sizes { ed: 4, wd: 2, es: 16, ws: 1 });
+/// let mut updater = FirmwareUpdater::new(Sizes { ed: 4, wd: 2, es: 16, ws: 1, ev: ERASES_TO_ONES });
 /// let (mut dfu, mut state) = ([0; 16], [0xFF; 16]);
 /// // two sectors erased, two pieces written
 /// assert_eq!(updater.write_firmware(&mut dfu, &state, 2, &[1, 2, 3, 4], FOREVER), Answer::Done(4));

@@ -6,30 +6,30 @@
 macro_rules! boundary {
     ($each:ident) => {
         $each! { eb_prepare_boot(active: &mut [u8; active_length], dfu: &mut [u8; dfu_length], state: &mut [u8; state_length],
-            Geometry { ea, wa, ed, wd, es, ws, b }, budget: u32) -> u64 }
+            Geometry { ea, wa, ed, wd, es, ws, b, ev }, budget: u32) -> u64 }
 
-        $each! { eb_read_state(state: &[u8; state_length], FirmwareState { es, ws }) -> u64 }
-        $each! { eb_state_get_state(state: &[u8; state_length], FirmwareState { es, ws }) -> u64 }
+        $each! { eb_read_state(state: &[u8; state_length], FirmwareState { es, ws, ev }) -> u64 }
+        $each! { eb_state_get_state(state: &[u8; state_length], FirmwareState { es, ws, ev }) -> u64 }
 
-        $each! { eb_state_mark_updated(state: &mut [u8; state_length], FirmwareState { es, ws }, budget: u32) -> u64 }
-        $each! { eb_state_mark_dfu(state: &mut [u8; state_length], FirmwareState { es, ws }, budget: u32) -> u64 }
-        $each! { eb_state_mark_booted(state: &mut [u8; state_length], FirmwareState { es, ws }, budget: u32) -> u64 }
+        $each! { eb_state_mark_updated(state: &mut [u8; state_length], FirmwareState { es, ws, ev }, budget: u32) -> u64 }
+        $each! { eb_state_mark_dfu(state: &mut [u8; state_length], FirmwareState { es, ws, ev }, budget: u32) -> u64 }
+        $each! { eb_state_mark_booted(state: &mut [u8; state_length], FirmwareState { es, ws, ev }, budget: u32) -> u64 }
 
-        $each! { eb_updater_get_state(dfu: &[u8; dfu_length], state: &[u8; state_length], Sizes { ed, wd, es, ws }) -> u64 }
-        $each! { eb_updater_mark_updated(dfu: &[u8; dfu_length], state: &mut [u8; state_length], Sizes { ed, wd, es, ws },
+        $each! { eb_updater_get_state(dfu: &[u8; dfu_length], state: &[u8; state_length], Sizes { ed, wd, es, ws, ev }) -> u64 }
+        $each! { eb_updater_mark_updated(dfu: &[u8; dfu_length], state: &mut [u8; state_length], Sizes { ed, wd, es, ws, ev },
             budget: u32) -> u64 }
-        $each! { eb_updater_mark_dfu(dfu: &[u8; dfu_length], state: &mut [u8; state_length], Sizes { ed, wd, es, ws },
+        $each! { eb_updater_mark_dfu(dfu: &[u8; dfu_length], state: &mut [u8; state_length], Sizes { ed, wd, es, ws, ev },
             budget: u32) -> u64 }
-        $each! { eb_updater_mark_booted(dfu: &[u8; dfu_length], state: &mut [u8; state_length], Sizes { ed, wd, es, ws },
+        $each! { eb_updater_mark_booted(dfu: &[u8; dfu_length], state: &mut [u8; state_length], Sizes { ed, wd, es, ws, ev },
             budget: u32) -> u64 }
 
-        $each! { eb_updater_read_dfu(dfu: &[u8; dfu_length], state: &[u8; state_length], Sizes { ed, wd, es, ws },
+        $each! { eb_updater_read_dfu(dfu: &[u8; dfu_length], state: &[u8; state_length], Sizes { ed, wd, es, ws, ev },
             offset: u32, out: &mut [u8; out_length]) -> u64 }
 
-        $each! { eb_updater_write_firmware(dfu: &mut [u8; dfu_length], state: &[u8; state_length], Sizes { ed, wd, es, ws },
+        $each! { eb_updater_write_firmware(dfu: &mut [u8; dfu_length], state: &[u8; state_length], Sizes { ed, wd, es, ws, ev },
             offset: u64, data: &[u8; data_length], last: &mut u32, budget: u32) -> u64 }
 
-        $each! { eb_updater_prepare_update(dfu: &mut [u8; dfu_length], state: &[u8; state_length], Sizes { ed, wd, es, ws },
+        $each! { eb_updater_prepare_update(dfu: &mut [u8; dfu_length], state: &[u8; state_length], Sizes { ed, wd, es, ws, ev },
             budget: u32) -> u64 }
 
         $each! { eb_state_from(bytes: &[u8; length]) -> u32 }

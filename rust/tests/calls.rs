@@ -1,14 +1,16 @@
 //! Every call through the wrapper, compared with document 01's bench sheet: the slices, sizes and parts of a result must arrive where
-//! the library expects them. Expected values are the paper's.
+//! the library expects them. Expected values are the paper's; where the erase value is 0, FF and 00 are exchanged in them.
 
 use std::error::Error;
 
 use embassy_boot_rattle::{
-    Answer, BootLoader, FOREVER, Finished, FirmwareState, FirmwareUpdater, Geometry, Refusal, Sizes, State,
-    Stopped,
+    Answer, BootLoader, ERASES_TO_ONES, ERASES_TO_ZEROS, FOREVER, Finished, FirmwareState, FirmwareUpdater,
+    Geometry, Refusal, Sizes, State, Stopped,
 };
 
-const SHEET: Geometry = Geometry { ea: 4, wa: 2, ed: 4, wd: 2, es: 16, ws: 1, b: 2 };
+const SHEET: Geometry = Geometry { ea: 4, wa: 2, ed: 4, wd: 2, es: 16, ws: 1, b: 2, ev: ERASES_TO_ONES };
+/// The same flash, erased to 00.
+const ZERO: Geometry = Geometry { ev: ERASES_TO_ZEROS, ..SHEET };
 const LOADER: BootLoader = BootLoader::new(SHEET);
 const FIRMWARE: FirmwareState = SHEET.firmware_state();
 const SIZES: Sizes = SHEET.sizes();
@@ -88,7 +90,7 @@ fn refusals_of_a_boot() {
         assert_eq!(x, start());
         answer
     };
-    // one change for each of the seven sizes
+    // one change for each of the eight numbers
     assert_eq!(refused(|g| g.ea = 65_537), Answer::Refused(Refusal::Limit));
     assert_eq!(refused(|g| g.wa = 3), Answer::Refused(Refusal::Page));
     assert_eq!(refused(|g| g.ed = 8), Answer::Refused(Refusal::Area));
@@ -96,6 +98,99 @@ fn refusals_of_a_boot() {
     assert_eq!(refused(|g| g.es = 12), Answer::Refused(Refusal::StateArea));
     assert_eq!(refused(|g| g.ws = 2), Answer::Refused(Refusal::StateArea));
     assert_eq!(refused(|g| g.b = 1), Answer::Refused(Refusal::Page));
+    assert_eq!(refused(|g| g.ev = 254), Answer::Refused(Refusal::Limit));
+}
+
+/// Every call reads the erase value: 255 and 0 are admitted, any other number is refusal 1, whatever else is wrong.
+#[test]
+fn other_erase_values() {
+    for ev in [1, 127, 128, 254, 256, 511, 65_535, 65_536, u32::MAX] {
+        let (mut x, no) = (start(), Answer::Refused(Refusal::Limit));
+        let geometry = Geometry { ev, ..SHEET };
+        let loader = BootLoader::new(geometry);
+        assert_eq!(loader.prepare_boot(&mut x.active, &mut x.dfu, &mut x.state, FOREVER), no);
+        assert_eq!(loader.read_state(&x.state), no);
+        let firmware = geometry.firmware_state();
+        assert_eq!(firmware.get_state(&x.state), no);
+        assert_eq!(firmware.mark_updated(&mut x.state, FOREVER), no);
+        assert_eq!(firmware.mark_dfu(&mut x.state, FOREVER), no);
+        assert_eq!(firmware.mark_booted(&mut x.state, FOREVER), no);
+        let mut updater = FirmwareUpdater::new(geometry.sizes());
+        let mut out = [7; 2];
+        assert_eq!(updater.get_state(&x.dfu, &x.state), no);
+        assert_eq!(updater.mark_updated(&x.dfu, &mut x.state, FOREVER), no);
+        assert_eq!(updater.mark_dfu(&x.dfu, &mut x.state, FOREVER), no);
+        assert_eq!(updater.mark_booted(&x.dfu, &mut x.state, FOREVER), no);
+        assert_eq!(updater.read_dfu(&x.dfu, &x.state, 0, &mut out), no);
+        assert_eq!(updater.write_firmware(&mut x.dfu, &x.state, 1, &[1, 2], FOREVER), no);
+        assert_eq!(updater.prepare_update(&mut x.dfu, &x.state, FOREVER), no);
+        assert_eq!((x, out, updater.last_erased()), (start(), [7; 2], None));
+        let short = Geometry { b: 3, es: 12, ..geometry };
+        let mut y = start();
+        let answer = BootLoader::new(short).prepare_boot(&mut y.active, &mut y.dfu, &mut y.state, FOREVER);
+        assert_eq!(answer, no);
+    }
+}
+
+/// Flash that erases to 00: a swap and its revert, cut and whole.
+#[test]
+fn boots_at_zero() {
+    let loader = BootLoader::new(ZERO);
+    let boot = |x: &mut Bench, budget| loader.prepare_boot(&mut x.active, &mut x.dfu, &mut x.state, budget);
+    let fresh = bench(&[1, 2, 3], &[4, 5, 6, 7], &[(1, 0xF0), (15, 0)]);
+    let mut x = fresh.clone();
+    assert_eq!(boot(&mut x, 0), Answer::Cut(0));
+    assert_eq!(x, fresh);
+    assert_eq!(boot(&mut x, 1), Answer::Cut(1));
+    assert_eq!(x, bench(&[1, 2, 3], &[4, 5, 6, 0], &[(1, 0xF0), (15, 0)]));
+    assert_eq!(boot(&mut x, 4), Answer::Cut(4));
+    assert_eq!(x, bench(&[1, 2, 3], &[4, 5, 6, 3], &[(1, 0xF0), (1, 0), (1, 0xFF), (13, 0)]));
+    assert_eq!(boot(&mut x, FOREVER), Answer::Found(State::Swap, 20));
+    assert_eq!(x, bench(&[4, 5, 6], &[4, 1, 2, 3], &[(1, 0xF0), (1, 0), (6, 0xFF), (8, 0)]));
+    assert_eq!(boot(&mut x, 25), Answer::Cut(25));
+    assert_eq!(x, bench(&[1, 2, 3], &[4, 5, 6, 3], &[(1, 0xF0), (13, 0xFF), (2, 0)]));
+    assert_eq!(boot(&mut x, 3), Answer::Found(State::Swap, 3));
+    assert_eq!(x, bench(&[1, 2, 3], &[4, 5, 6, 3], &[(1, 0xC0), (15, 0)]));
+    assert_eq!(loader.read_state(&x.state), Answer::Found(State::Revert, 0));
+    // a state area in the other flash's colours: nothing in it is erased, so the progress is invalid, and every mark is done
+    let mut other = start();
+    assert_eq!(boot(&mut other, FOREVER), Answer::Found(State::Swap, 3));
+    assert_eq!(other, bench(&[1, 2, 3], &[4, 5, 6, 7], &[(1, 0xC0), (15, 0)]));
+}
+
+/// Flash that erases to 00: marks and an update.
+#[test]
+fn an_update_at_zero() {
+    let firmware = ZERO.firmware_state();
+    let mut state = vec![0; 16];
+    assert_eq!(firmware.mark_updated(&mut state, 1), Answer::Cut(1));
+    assert_eq!(state, runs(&[(1, 0), (1, 0xFF), (14, 0)]));
+    assert_eq!(firmware.mark_updated(&mut state, 2), Answer::Done(2));
+    assert_eq!(state, runs(&[(1, 0xF0), (15, 0)]));
+    assert_eq!(firmware.get_state(&state), Answer::Found(State::Swap, 0));
+    assert_eq!(firmware.mark_dfu(&mut state, FOREVER), Answer::Done(3));
+    assert_eq!(firmware.mark_booted(&mut state, FOREVER), Answer::Done(3));
+    assert_eq!(state, runs(&[(1, 0xD0), (15, 0)]));
+
+    let mut updater = FirmwareUpdater::new(ZERO.sizes());
+    let mut dfu = vec![0xFF; 16];
+    assert_eq!(updater.write_firmware(&mut dfu, &state, 2, &[1, 2, 3, 4], 4), Answer::Done(4));
+    assert_eq!(dfu[..8], [0, 0, 1, 2, 3, 4, 0, 0]);
+    assert_eq!(updater.last_erased(), Some(1));
+    // the sector is not erased again, and bits only rise
+    assert_eq!(updater.write_firmware(&mut dfu, &state, 4, &[0x30, 0x07], FOREVER), Answer::Done(1));
+    let mut out = [9; 4];
+    assert_eq!(updater.read_dfu(&dfu, &state, 4, &mut out), Answer::Done(0));
+    assert_eq!(out, [0x33, 0x07, 0, 0]);
+    assert_eq!(updater.prepare_update(&mut dfu, &state, 2), Answer::Cut(2));
+    assert_eq!(dfu, runs(&[(8, 0), (8, 0xFF)]));
+    assert_eq!(updater.mark_dfu(&dfu, &mut state, FOREVER), Answer::Done(3));
+    assert_eq!(updater.mark_updated(&dfu, &mut state, 1), Answer::Cut(1));
+    assert_eq!(state, runs(&[(1, 0xE0), (1, 0xFF), (14, 0)]));
+    assert_eq!(updater.mark_updated(&dfu, &mut state, FOREVER), Answer::Done(2));
+    assert_eq!(updater.get_state(&dfu, &state), Answer::Found(State::Swap, 0));
+    assert_eq!(updater.mark_booted(&dfu, &mut state, FOREVER), Answer::Done(3));
+    assert_eq!(state, runs(&[(1, 0xD0), (15, 0)]));
 }
 
 #[test]
@@ -108,7 +203,8 @@ fn marks_of_the_firmware_state() {
     assert_eq!(LOADER.read_state(&state), Answer::Found(State::DfuDetach, 0));
     assert_eq!(FIRMWARE.mark_booted(&mut state, FOREVER), Answer::Done(3));
     assert_eq!(state, runs(&[(1, 0xD0), (15, 0xFF)]));
-    assert_eq!(FirmwareState { es: 1, ws: 16 }.get_state(&state), Answer::Refused(Refusal::StateArea));
+    let turned = FirmwareState { es: 1, ws: 16, ..FIRMWARE };
+    assert_eq!(turned.get_state(&state), Answer::Refused(Refusal::StateArea));
 }
 
 #[test]
@@ -168,9 +264,9 @@ fn states_of_words() {
 
 #[test]
 fn parts_of_a_geometry() {
-    let geometry = Geometry { ea: 1, wa: 2, ed: 3, wd: 4, es: 5, ws: 6, b: 7 };
-    assert_eq!(geometry.sizes(), Sizes { ed: 3, wd: 4, es: 5, ws: 6 });
-    assert_eq!(geometry.firmware_state(), FirmwareState { es: 5, ws: 6 });
+    let geometry = Geometry { ea: 1, wa: 2, ed: 3, wd: 4, es: 5, ws: 6, b: 7, ev: 8 };
+    assert_eq!(geometry.sizes(), Sizes { ed: 3, wd: 4, es: 5, ws: 6, ev: 8 });
+    assert_eq!(geometry.firmware_state(), FirmwareState { es: 5, ws: 6, ev: 8 });
 }
 
 #[test]

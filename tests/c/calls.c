@@ -1,5 +1,6 @@
 /* Calls every function of include/embassy_boot.h and compares with document 01's bench sheet, to see that the header says what the
- * library defines: order and width of parameters, and where the parts of a result stand. Expected values are the paper's.
+ * library defines: order and width of parameters, and where the parts of a result stand. Expected values are the paper's; where the
+ * erase value is 0, FF and 00 are exchanged in them.
  *
  *   cc -std=c11 -Wall -Wextra -Werror -Iinclude tests/c/calls.c target/staticlib/libembassy_boot.a -o target/calls && target/calls
  */
@@ -59,7 +60,7 @@ static int shows(const char *a, const char *d, const uint8_t *s)
 
 static uint64_t boot(uint32_t budget)
 {
-    return eb_prepare_boot(active, 12, dfu, 16, state, 16, 4, 2, 4, 2, 16, 1, 2, budget);
+    return eb_prepare_boot(active, 12, dfu, 16, state, 16, 4, 2, 4, 2, 16, 1, 2, 255, budget);
 }
 
 static void boots(void)
@@ -73,7 +74,7 @@ static void boots(void)
     CHECK(is(boot(27), EB_DONE, EB_SWAP, 27)); /* f */
     runs(s, 1, 0xC0, 15, 0xFF, 0, 0, 0, 0);
     CHECK(shows("\1\2\3", "\4\5\6\3", s));
-    CHECK(is(eb_read_state(state, 16, 16, 1), EB_DONE, EB_REVERT, 0));
+    CHECK(is(eb_read_state(state, 16, 16, 1, 255), EB_DONE, EB_REVERT, 0));
 
     start(); /* c, d, e */
     CHECK(is(boot(4), EB_CUT, EB_NO_STATE, 4));
@@ -89,17 +90,17 @@ static void boots(void)
 
     start(); /* j: the progress is invalidated, and no more; the boot finishes the confirmation */
     CHECK(is(boot(24), EB_DONE, EB_SWAP, 24));
-    CHECK(is(eb_state_mark_booted(state, 16, 16, 1, 1), EB_CUT, EB_NO_STATE, 1));
+    CHECK(is(eb_state_mark_booted(state, 16, 16, 1, 255, 1), EB_CUT, EB_NO_STATE, 1));
     CHECK(is(boot(3), EB_DONE, EB_SWAP, 2));
     runs(s, 1, 0xD0, 15, 0xFF, 0, 0, 0, 0);
     CHECK(shows("\4\5\6", "\4\1\2\3", s));
 
     /* each size is read: the refusals of rows 1 to 4 */
     start();
-    CHECK(is(eb_prepare_boot(active, 12, dfu, 16, state, 16, 0, 2, 4, 2, 16, 1, 2, 9), EB_LIMIT, EB_NO_STATE, 0));
-    CHECK(is(eb_prepare_boot(active, 12, dfu, 16, state, 16, 4, 3, 4, 2, 16, 1, 2, 9), EB_PAGE, EB_NO_STATE, 0));
-    CHECK(is(eb_prepare_boot(active, 12, dfu, 12, state, 16, 4, 2, 4, 2, 16, 1, 2, 9), EB_AREA, EB_NO_STATE, 0));
-    CHECK(is(eb_prepare_boot(active, 12, dfu, 16, state, 13, 4, 2, 4, 2, 13, 1, 2, 9), EB_STATE_AREA, EB_NO_STATE, 0));
+    CHECK(is(eb_prepare_boot(active, 12, dfu, 16, state, 16, 0, 2, 4, 2, 16, 1, 2, 255, 9), EB_LIMIT, EB_NO_STATE, 0));
+    CHECK(is(eb_prepare_boot(active, 12, dfu, 16, state, 16, 4, 3, 4, 2, 16, 1, 2, 255, 9), EB_PAGE, EB_NO_STATE, 0));
+    CHECK(is(eb_prepare_boot(active, 12, dfu, 12, state, 16, 4, 2, 4, 2, 16, 1, 2, 255, 9), EB_AREA, EB_NO_STATE, 0));
+    CHECK(is(eb_prepare_boot(active, 12, dfu, 16, state, 13, 4, 2, 4, 2, 13, 1, 2, 255, 9), EB_STATE_AREA, EB_NO_STATE, 0));
     runs(s, 1, 0xF0, 15, 0xFF, 0, 0, 0, 0);
     CHECK(shows("\1\2\3", "\4\5\6\7", s));
 }
@@ -109,16 +110,16 @@ static void states(void)
     uint8_t s[16];
 
     memset(state, 0xFF, 16);
-    CHECK(is(eb_state_mark_updated(state, 16, 16, 1, 3), EB_DONE, EB_NO_STATE, 3));
-    CHECK(is(eb_state_mark_updated(state, 16, 16, 1, 0), EB_DONE, EB_NO_STATE, 0));
-    CHECK(is(eb_state_get_state(state, 16, 16, 1), EB_DONE, EB_SWAP, 0));
-    CHECK(is(eb_state_mark_dfu(state, 16, 16, 1, 9), EB_DONE, EB_NO_STATE, 3));
-    CHECK(is(eb_read_state(state, 16, 16, 1), EB_DONE, EB_DFU_DETACH, 0));
-    CHECK(is(eb_state_mark_booted(state, 16, 16, 1, 9), EB_DONE, EB_NO_STATE, 3));
+    CHECK(is(eb_state_mark_updated(state, 16, 16, 1, 255, 3), EB_DONE, EB_NO_STATE, 3));
+    CHECK(is(eb_state_mark_updated(state, 16, 16, 1, 255, 0), EB_DONE, EB_NO_STATE, 0));
+    CHECK(is(eb_state_get_state(state, 16, 16, 1, 255), EB_DONE, EB_SWAP, 0));
+    CHECK(is(eb_state_mark_dfu(state, 16, 16, 1, 255, 9), EB_DONE, EB_NO_STATE, 3));
+    CHECK(is(eb_read_state(state, 16, 16, 1, 255), EB_DONE, EB_DFU_DETACH, 0));
+    CHECK(is(eb_state_mark_booted(state, 16, 16, 1, 255, 9), EB_DONE, EB_NO_STATE, 3));
     runs(s, 1, 0xD0, 15, 0xFF, 0, 0, 0, 0);
     CHECK(!memcmp(state, s, 16));
-    CHECK(is(eb_state_get_state(state, 16, 16, 1), EB_DONE, EB_BOOT, 0));
-    CHECK(is(eb_state_get_state(state, 16, 1, 16), EB_STATE_AREA, EB_NO_STATE, 0));
+    CHECK(is(eb_state_get_state(state, 16, 16, 1, 255), EB_DONE, EB_BOOT, 0));
+    CHECK(is(eb_state_get_state(state, 16, 1, 16, 255), EB_STATE_AREA, EB_NO_STATE, 0));
 
     CHECK(eb_state_from((const uint8_t *)"\xF0\xF0\xF0\xFF", 4) == EB_BOOT);
     CHECK(eb_state_from((const uint8_t *)"\xF0\xF0", 2) == EB_SWAP);
@@ -129,7 +130,7 @@ static void states(void)
 
 static uint64_t write(uint64_t offset, const char *bytes, size_t n, uint32_t *last, uint32_t budget)
 {
-    return eb_updater_write_firmware(dfu, 16, state, 16, 4, 2, 16, 1, offset, (const uint8_t *)bytes, n, last, budget);
+    return eb_updater_write_firmware(dfu, 16, state, 16, 4, 2, 16, 1, 255, offset, (const uint8_t *)bytes, n, last, budget);
 }
 
 static void updates(void)
@@ -150,39 +151,96 @@ static void updates(void)
     CHECK(is(write(8, "\1\1", 2, &last, 1), EB_CUT, EB_NO_STATE, 1) && last == 2);
 
     memcpy(out, "....", 4);
-    CHECK(is(eb_updater_read_dfu(dfu, 16, state, 16, 4, 2, 16, 1, 3, out, 3), EB_DONE, EB_NO_STATE, 0));
+    CHECK(is(eb_updater_read_dfu(dfu, 16, state, 16, 4, 2, 16, 1, 255, 3, out, 3), EB_DONE, EB_NO_STATE, 0));
     CHECK(!memcmp(out, "\xFF\3\4.", 4));
-    CHECK(is(eb_updater_read_dfu(dfu, 16, state, 16, 4, 2, 16, 1, 14, out, 3), EB_RANGE, EB_NO_STATE, 0));
+    CHECK(is(eb_updater_read_dfu(dfu, 16, state, 16, 4, 2, 16, 1, 255, 14, out, 3), EB_RANGE, EB_NO_STATE, 0));
     CHECK(!memcmp(out, "\xFF\3\4.", 4));
 
-    CHECK(is(eb_updater_prepare_update(dfu, 16, state, 16, 4, 2, 16, 1, 0), EB_CUT, EB_NO_STATE, 0));
+    CHECK(is(eb_updater_prepare_update(dfu, 16, state, 16, 4, 2, 16, 1, 255, 0), EB_CUT, EB_NO_STATE, 0));
     CHECK(dfu[0] == 9);
-    CHECK(is(eb_updater_prepare_update(dfu, 16, state, 16, 4, 2, 16, 1, 1), EB_CUT, EB_NO_STATE, 1));
+    CHECK(is(eb_updater_prepare_update(dfu, 16, state, 16, 4, 2, 16, 1, 255, 1), EB_CUT, EB_NO_STATE, 1));
     CHECK(!memcmp(dfu, "\xFF\xFF\xFF\xFF\3\4\xFF\xFF", 8));
-    CHECK(is(eb_updater_prepare_update(dfu, 16, state, 16, 4, 2, 16, 1, 4), EB_DONE, EB_NO_STATE, 4));
+    CHECK(is(eb_updater_prepare_update(dfu, 16, state, 16, 4, 2, 16, 1, 255, 4), EB_DONE, EB_NO_STATE, 4));
     CHECK(!memcmp(dfu, "\xFF\xFF\xFF\xFF\xFF\xFF\xFF\xFF\xFF\xFF\xFF\xFF\xFF\xFF\xFF\xFF", 16));
 
-    CHECK(is(eb_updater_mark_dfu(dfu, 16, state, 16, 4, 2, 16, 1, 9), EB_DONE, EB_NO_STATE, 3));
-    CHECK(is(eb_updater_get_state(dfu, 16, state, 16, 4, 2, 16, 1), EB_DONE, EB_DFU_DETACH, 0));
-    CHECK(is(eb_updater_mark_updated(dfu, 16, state, 16, 4, 2, 16, 1, 9), EB_DONE, EB_NO_STATE, 3));
-    CHECK(is(eb_updater_get_state(dfu, 16, state, 16, 4, 2, 16, 1), EB_DONE, EB_SWAP, 0));
-    CHECK(is(eb_updater_mark_dfu(dfu, 16, state, 16, 4, 2, 16, 1, 9), EB_BAD_STATE, EB_NO_STATE, 0));
+    CHECK(is(eb_updater_mark_dfu(dfu, 16, state, 16, 4, 2, 16, 1, 255, 9), EB_DONE, EB_NO_STATE, 3));
+    CHECK(is(eb_updater_get_state(dfu, 16, state, 16, 4, 2, 16, 1, 255), EB_DONE, EB_DFU_DETACH, 0));
+    CHECK(is(eb_updater_mark_updated(dfu, 16, state, 16, 4, 2, 16, 1, 255, 9), EB_DONE, EB_NO_STATE, 3));
+    CHECK(is(eb_updater_get_state(dfu, 16, state, 16, 4, 2, 16, 1, 255), EB_DONE, EB_SWAP, 0));
+    CHECK(is(eb_updater_mark_dfu(dfu, 16, state, 16, 4, 2, 16, 1, 255, 9), EB_BAD_STATE, EB_NO_STATE, 0));
     CHECK(is(write(0, "\1\1", 2, &last, 9), EB_BAD_STATE, EB_NO_STATE, 0) && last == 2);
-    CHECK(is(eb_updater_prepare_update(dfu, 16, state, 16, 4, 2, 16, 1, 9), EB_BAD_STATE, EB_NO_STATE, 0));
-    CHECK(is(eb_updater_mark_booted(dfu, 16, state, 16, 4, 2, 16, 1, 9), EB_DONE, EB_NO_STATE, 3));
-    CHECK(is(eb_updater_get_state(dfu, 16, state, 16, 4, 2, 16, 1), EB_DONE, EB_BOOT, 0));
-    CHECK(is(eb_updater_mark_booted(dfu, 15, state, 16, 4, 2, 16, 1, 9), EB_AREA, EB_NO_STATE, 0));
-    CHECK(is(eb_updater_mark_updated(dfu, 16, state, 16, 3, 2, 16, 1, 9), EB_PAGE, EB_NO_STATE, 0));
+    CHECK(is(eb_updater_prepare_update(dfu, 16, state, 16, 4, 2, 16, 1, 255, 9), EB_BAD_STATE, EB_NO_STATE, 0));
+    CHECK(is(eb_updater_mark_booted(dfu, 16, state, 16, 4, 2, 16, 1, 255, 9), EB_DONE, EB_NO_STATE, 3));
+    CHECK(is(eb_updater_get_state(dfu, 16, state, 16, 4, 2, 16, 1, 255), EB_DONE, EB_BOOT, 0));
+    CHECK(is(eb_updater_mark_booted(dfu, 15, state, 16, 4, 2, 16, 1, 255, 9), EB_AREA, EB_NO_STATE, 0));
+    CHECK(is(eb_updater_mark_updated(dfu, 16, state, 16, 3, 2, 16, 1, 255, 9), EB_PAGE, EB_NO_STATE, 0));
 }
 
-/* The calls that take the sizes in a record hand each number to its place: seven different ones, admitted, and then each of them as
- * 0, which is refused just where the call reads it. */
+/* Flash that erases to 00. */
+static uint64_t boot_zero(uint32_t budget)
+{
+    return eb_prepare_boot(active, 12, dfu, 16, state, 16, 4, 2, 4, 2, 16, 1, 2, 0, budget);
+}
+
+static void zeros(void)
+{
+    uint8_t s[16], out[4];
+    uint32_t last = EB_NO_SECTOR;
+
+    memset(state, 0, 16); /* marks: the invalidation is FF, and the erase takes it back */
+    CHECK(is(eb_state_mark_updated(state, 16, 16, 1, 0, 1), EB_CUT, EB_NO_STATE, 1));
+    runs(s, 1, 0, 1, 0xFF, 14, 0, 0, 0);
+    CHECK(!memcmp(state, s, 16));
+    CHECK(is(eb_state_mark_updated(state, 16, 16, 1, 0, 9), EB_DONE, EB_NO_STATE, 2));
+    runs(s, 1, 0xF0, 15, 0, 0, 0, 0, 0);
+    CHECK(!memcmp(state, s, 16));
+    CHECK(is(eb_read_state(state, 16, 16, 1, 0), EB_DONE, EB_SWAP, 0));
+    CHECK(is(eb_state_get_state(state, 16, 16, 1, 0), EB_DONE, EB_SWAP, 0));
+
+    pages(active, 3, "\1\2\3"); /* d, c, a */
+    pages(dfu, 4, "\4\5\6\7");
+    CHECK(is(boot_zero(1), EB_CUT, EB_NO_STATE, 1));
+    CHECK(shows("\1\2\3", "\4\5\6\0", s));
+    CHECK(is(boot_zero(4), EB_CUT, EB_NO_STATE, 4));
+    runs(s, 1, 0xF0, 1, 0, 1, 0xFF, 13, 0);
+    CHECK(shows("\1\2\3", "\4\5\6\3", s));
+    CHECK(is(boot_zero(EB_FOREVER), EB_DONE, EB_SWAP, 20));
+    runs(s, 1, 0xF0, 1, 0, 6, 0xFF, 8, 0);
+    CHECK(shows("\4\5\6", "\4\1\2\3", s));
+    CHECK(is(eb_state_mark_booted(state, 16, 16, 1, 0, 1), EB_CUT, EB_NO_STATE, 1)); /* j */
+    runs(s, 1, 0xF0, 1, 0xFF, 6, 0xFF, 8, 0);
+    CHECK(shows("\4\5\6", "\4\1\2\3", s));
+    CHECK(is(boot_zero(9), EB_DONE, EB_SWAP, 2));
+    runs(s, 1, 0xD0, 15, 0, 0, 0, 0, 0);
+    CHECK(shows("\4\5\6", "\4\1\2\3", s));
+    CHECK(is(eb_state_mark_dfu(state, 16, 16, 1, 0, 9), EB_DONE, EB_NO_STATE, 3));
+
+    memset(dfu, 0xFF, 16); /* the updater; a second write into the sector only sets bits */
+    CHECK(is(eb_updater_write_firmware(dfu, 16, state, 16, 4, 2, 16, 1, 0, 2, (const uint8_t *)"\1\2\3\4", 4, &last, 9), EB_DONE,
+             EB_NO_STATE, 4));
+    CHECK(is(eb_updater_write_firmware(dfu, 16, state, 16, 4, 2, 16, 1, 0, 4, (const uint8_t *)"\x30\7", 2, &last, 9), EB_DONE,
+             EB_NO_STATE, 1));
+    CHECK(!memcmp(dfu, "\0\0\1\2\x33\7\0\0\xFF\xFF\xFF\xFF\xFF\xFF\xFF\xFF", 16) && last == 1);
+    CHECK(is(eb_updater_read_dfu(dfu, 16, state, 16, 4, 2, 16, 1, 0, 3, out, 4), EB_DONE, EB_NO_STATE, 0));
+    CHECK(!memcmp(out, "\2\x33\7\0", 4));
+    CHECK(is(eb_updater_prepare_update(dfu, 16, state, 16, 4, 2, 16, 1, 0, 3), EB_CUT, EB_NO_STATE, 3));
+    CHECK(!memcmp(dfu, "\0\0\0\0\0\0\0\0\0\0\0\0\xFF\xFF\xFF\xFF", 16));
+    CHECK(is(eb_updater_mark_updated(dfu, 16, state, 16, 4, 2, 16, 1, 0, 9), EB_DONE, EB_NO_STATE, 3));
+    CHECK(is(eb_updater_get_state(dfu, 16, state, 16, 4, 2, 16, 1, 0), EB_DONE, EB_SWAP, 0));
+    CHECK(is(eb_updater_mark_booted(dfu, 16, state, 16, 4, 2, 16, 1, 0, 9), EB_DONE, EB_NO_STATE, 3));
+    CHECK(is(eb_updater_mark_dfu(dfu, 16, state, 16, 4, 2, 16, 1, 0, 9), EB_DONE, EB_NO_STATE, 3));
+    runs(s, 1, 0xE0, 15, 0, 0, 0, 0, 0);
+    CHECK(!memcmp(state, s, 16));
+}
+
+/* The calls that take the numbers in a record hand each to its place: eight different ones, admitted, and then each size as 0,
+ * which is refused just where the call reads it. */
 static uint8_t active_2[64], dfu_3[96], state_64[64], out_2[2];
 
 static void with_a_record(const struct eb_geometry *g, uint32_t boots, uint32_t states, uint32_t updaters)
 {
     uint32_t last = EB_NO_SECTOR;
-    memset(state_64, 0xFF, 64);
+    memset(state_64, (int)g->ev, 64);
     CHECK(eb_number(eb_read_state_with(state_64, 64, g)) == states);
     CHECK(eb_number(eb_state_get_state_with(state_64, 64, g)) == states);
     CHECK(eb_number(eb_state_mark_dfu_with(state_64, 64, g, 9)) == states);
@@ -200,7 +258,11 @@ static void with_a_record(const struct eb_geometry *g, uint32_t boots, uint32_t 
 
 static void records(void)
 {
-    const struct eb_geometry g = {.ea = 8, .wa = 4, .ed = 32, .wd = 2, .es = 64, .ws = 1, .b = 16};
+    const struct eb_geometry g = EB_GEOMETRY(EB_ERASES_TO_FF, .ea = 8, .wa = 4, .ed = 32, .wd = 2, .es = 64, .ws = 1, .b = 16);
+#ifdef WITHOUT_THE_ERASE_VALUE /* must not compile */
+    const struct eb_geometry left_out = EB_GEOMETRY(.ea = 8, .wa = 4, .ed = 32, .wd = 2, .es = 64, .ws = 1, .b = 16);
+#endif
+    static const uint32_t no_values[] = {1, 127, 128, 254, 256, 511, 65535, 65536, 4294967295};
     struct eb_geometry h;
 
     with_a_record(&g, EB_DONE, EB_DONE, EB_DONE);
@@ -219,6 +281,10 @@ static void records(void)
     h = g, h.ws = 32, with_a_record(&h, EB_PAGE, EB_DONE, EB_DONE);
     h = g, h.es = 1, h.ws = 64, with_a_record(&h, EB_PAGE, EB_STATE_AREA, EB_STATE_AREA);
     h = g, h.ed = 2, h.wd = 32, with_a_record(&h, EB_PAGE, EB_DONE, EB_PAGE);
+    /* every call reads the erase value */
+    h = g, h.ev = 0, with_a_record(&h, EB_DONE, EB_DONE, EB_DONE);
+    for (size_t i = 0; i < sizeof no_values / sizeof *no_values; i++)
+        h = g, h.ev = no_values[i], with_a_record(&h, EB_LIMIT, EB_LIMIT, EB_LIMIT);
 }
 
 static void names(void)
@@ -234,6 +300,7 @@ int main(void)
     boots();
     states();
     updates();
+    zeros();
     records();
     names();
     if (!failed)

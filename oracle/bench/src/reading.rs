@@ -3,7 +3,10 @@
 
 use std::io::Write;
 
-use call::{Answers, Bench, CUT, Call, Geometry, Kind, NO_SECTOR, NO_STATE, number_of, operations_of, pack};
+use call::{
+    Answers, Bench, CUT, Call, Geometry, Kind, NO_SECTOR, NO_STATE, ONES, ZEROS, number_of, operations_of,
+    pack,
+};
 use model::Model;
 
 use crate::slips::Slip;
@@ -91,7 +94,7 @@ impl Reading {
         lines
     }
 
-    /// Ea Wa Ed Wd Es Ws b
+    /// Ea Wa Ed Wd Es Ws b; the erase value is 255 (request No. 11)
     fn first_line(&self, line: &[u8]) -> Option<Geometry> {
         let mut numbers = self.numbers(line)?;
         if self.errs(Slip::EighthNumberIgnored) {
@@ -101,7 +104,8 @@ impl Reading {
             return None;
         }
         let [ea, wa, ed, wd, es, ws, b] = numbers[..] else { return None };
-        Some(Geometry { ea, wa, ed, wd, es, ws, b })
+        let ev = if self.errs(Slip::EraseValueZero) { ZEROS } else { ONES };
+        Some(Geometry { ea, wa, ed, wd, es, ws, b, ev })
     }
 
     /// La Ld Ls

@@ -1,7 +1,7 @@
 //! Well-formed inputs: a geometry with its lengths, and commands.
 
 use call::random::Random;
-use call::{Geometry, least_common};
+use call::{Geometry, ONES, least_common};
 
 /// The first two lines.
 #[derive(Clone, Copy)]
@@ -20,8 +20,10 @@ pub struct Script {
 pub const NAMES: [&str; 3] = ["update", "booted", "boot"];
 
 /// Document 01's sheet, and the example of request No. 4.
-pub const SHEET: Shape =
-    Shape { geometry: Geometry { ea: 4, wa: 2, ed: 4, wd: 2, es: 16, ws: 1, b: 2 }, lengths: [12, 16, 16] };
+pub const SHEET: Shape = Shape {
+    geometry: Geometry { ea: 4, wa: 2, ed: 4, wd: 2, es: 16, ws: 1, b: 2, ev: ONES },
+    lengths: [12, 16, 16],
+};
 
 impl Shape {
     pub fn pages(&self) -> usize {
@@ -73,7 +75,7 @@ pub fn admitted(random: &mut Random, most: usize) -> Shape {
     let fewest = (3 + 4 * pages + random.below(4)) * ws;
     let [ea, wa, ed, wd, es, ws, b] = [ea, wa, ed, wd, es, ws, b].map(|n| n as u32);
     Shape {
-        geometry: Geometry { ea, wa, ed, wd, es, ws, b },
+        geometry: Geometry { ea, wa, ed, wd, es, ws, b, ev: ONES },
         lengths: [
             pages * page,
             (pages + 1 + random.below(3)) * page,

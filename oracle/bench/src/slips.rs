@@ -29,6 +29,7 @@ pub enum Slip {
     FirstLineHeldTo16384,
     SecondLineHeldTo65536,
     EighthNumberIgnored,
+    EraseValueZero,
     LineCountedFrom0,
     CommandCounted,
     AreasAfterBadLine,
@@ -59,7 +60,7 @@ pub enum Slip {
 }
 
 /// Slips of the program itself, by name.
-const OWN: [(&str, Slip); 48] = [
+const OWN: [(&str, Slip); 49] = [
     ("line-of-81-accepted", Slip::LineOf81Accepted),
     ("line-of-80-refused", Slip::LineOf80Refused),
     ("last-line-needs-line-feed", Slip::LastLineNeedsLineFeed),
@@ -81,6 +82,7 @@ const OWN: [(&str, Slip); 48] = [
     ("first-line-held-to-16384", Slip::FirstLineHeldTo16384),
     ("second-line-held-to-65536", Slip::SecondLineHeldTo65536),
     ("eighth-number-ignored", Slip::EighthNumberIgnored),
+    ("erase-value-zero", Slip::EraseValueZero),
     ("line-counted-from-0", Slip::LineCountedFrom0),
     ("command-counted", Slip::CommandCounted),
     ("areas-after-bad-line", Slip::AreasAfterBadLine),
@@ -111,7 +113,7 @@ const OWN: [(&str, Slip); 48] = [
 ];
 
 /// The model's ways that show in what the three commands can reach.
-const CALLS: [&str; 15] = [
+const CALLS: [&str; 16] = [
     "low-pages-first",
     "revert-high-pages-first",
     "count-one-more",
@@ -127,6 +129,7 @@ const CALLS: [&str; 15] = [
     "page-written-at-once",
     "page-is-the-larger",
     "page-is-the-product",
+    "or-at-ones",
 ];
 
 impl Slip {

@@ -28,11 +28,11 @@ pub enum Kind {
 /// Which areas and numbers a call takes.
 #[derive(Clone, Copy, PartialEq, Eq, Debug)]
 pub enum Family {
-    /// all three areas, all seven numbers
+    /// all three areas, all eight numbers
     Boot,
-    /// the state area, Es and Ws
+    /// the state area, Es, Ws and the erase value
     State,
-    /// DFU and state area, Ed, Wd, Es and Ws
+    /// DFU and state area, Ed, Wd, Es, Ws and the erase value
     Updater,
     /// bytes only
     Bytes,
@@ -97,7 +97,7 @@ impl Kind {
     }
 }
 
-/// The seven numbers of document 01.
+/// The seven numbers of document 01, and the erase value of request No. 11.
 #[derive(Clone, Copy, PartialEq, Eq, Debug, Default)]
 pub struct Geometry {
     pub ea: u32,
@@ -107,12 +107,28 @@ pub struct Geometry {
     pub es: u32,
     pub ws: u32,
     pub b: u32,
+    pub ev: u32,
 }
+
+/// The erase values that are admitted, as numbers of the geometry.
+pub const ONES: u32 = 255;
+pub const ZEROS: u32 = 0;
+pub const ERASE_VALUES: [u32; 2] = [ONES, ZEROS];
 
 impl Geometry {
     /// P
     pub fn page(&self) -> usize {
         least_common(self.ea as usize, self.ed as usize)
+    }
+
+    /// The byte that an erase leaves. Only asked where the erase value is one of the two.
+    pub fn erased(&self) -> u8 {
+        self.ev as u8
+    }
+
+    /// The byte that marks and invalidation write.
+    pub fn marked(&self) -> u8 {
+        !self.erased()
     }
 }
 
@@ -189,6 +205,19 @@ impl Bench {
 /// Anything that answers calls: the library, the original, the model.
 pub trait Answers {
     fn answer(&self, call: &Call, lent: Lent) -> u64;
+}
+
+/// The original, compiled for one row of sizes and one erase value. The text is compiled once for each value, and this is the one
+/// face of both.
+pub trait Original: Answers + Sync {
+    /// Ea, Wa, Ed, Wd, Es, Ws
+    fn numbers(&self) -> [u32; 6];
+
+    /// The erase value that the text was compiled for.
+    fn erase_value(&self) -> u32;
+
+    /// Updater calls in a row on one updater, whose memory starts as `lent.last`; one result for each.
+    fn chain(&self, calls: &[Call], lent: Lent) -> Vec<u64>;
 }
 
 /// The state of an answer that carries none.

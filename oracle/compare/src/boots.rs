@@ -1,20 +1,26 @@
 //! prepare_boot: every budget, from states of every kind.
 
-use call::{Bench, Call, Geometry, Kind, number_of};
-use original::Original;
+use call::{Bench, Call, ERASE_VALUES, Geometry, Kind, Original, number_of};
 
 use crate::judge::Judge;
 use crate::random::Random;
 use crate::shapes::{Shape, all_shapes, random_shape, row};
-use crate::states::{self, MAGICS, each_over};
+use crate::states::{self, MAGICS, each_over, for_value};
 
 pub fn boot(geometry: Geometry) -> Call<'static> {
     Call { kind: Kind::PrepareBoot, geometry, budget: 0, offset: 0, data: &[] }
 }
 
-/// The smallest geometries with every state area over a small alphabet, every budget.
+/// The smallest geometries with every state area over a small alphabet, every budget; at both erase values.
 pub fn exhaustive(judge: &mut Judge, random: &mut Random) {
-    let byte_words = row([1, 1, 1, 1, 1, 1]);
+    for ev in ERASE_VALUES {
+        exhaustive_at(judge, random, ev);
+    }
+}
+
+/// Starts and alphabets are written for 255; at 0 their FF and 00 are exchanged.
+fn exhaustive_at(judge: &mut Judge, random: &mut Random, ev: u32) {
+    let byte_words = row([1, 1, 1, 1, 1, 1], ev);
     // no page: three to five words, all ten odd bytes or the four that matter
     each_shape_over(judge, random, byte_words, [1, 0, 1, 3], &[], &states::ODD);
     each_shape_over(judge, random, byte_words, [1, 0, 2, 5], &[], &[0x00, 0xFF, 0xF0, 0xC0]);
@@ -26,12 +32,13 @@ pub fn exhaustive(judge: &mut Judge, random: &mut Random) {
     // two pages
     each_shape_over(judge, random, byte_words, [1, 2, 3, 11], &[0xF0, 0xFF], &[0x00, 0xFF, 0x5A]);
     // three pages on the sheet's numbers, and the shortest state area
-    each_shape_over(judge, random, row([4, 2, 4, 2, 15, 1]), [2, 3, 4, 15], &[0xF0, 0xFF], &[0x00, 0xFF]);
+    let fewest = row([4, 2, 4, 2, 15, 1], ev);
+    each_shape_over(judge, random, fewest, [2, 3, 4, 15], &[0xF0, 0xFF], &[0x00, 0xFF]);
     // words of two and three bytes, so that a mark or a magic can be half there
-    let two = row([2, 1, 2, 1, 2, 2]);
+    let two = row([2, 1, 2, 1, 2, 2], ev);
     each_shape_over(judge, random, two, [2, 0, 1, 3], &[], &[0x00, 0xFF, 0xF0, 0xC0]);
     each_shape_over(judge, random, two, [2, 1, 2, 7], &[0xF0, 0xF0, 0xFF, 0xFF], &[0x00, 0xFF]);
-    let three = row([3, 1, 3, 3, 6, 3]);
+    let three = row([3, 1, 3, 3, 6, 3], ev);
     each_shape_over(
         judge,
         random,
@@ -42,7 +49,7 @@ pub fn exhaustive(judge: &mut Judge, random: &mut Random) {
     );
 }
 
-/// Chunk, active pages, DFU pages and state words; the state area starts as given.
+/// Chunk, active pages, DFU pages and state words; the state area starts as given, for 255.
 fn each_shape_over(
     judge: &mut Judge,
     random: &mut Random,
@@ -55,7 +62,8 @@ fn each_shape_over(
     let page = geometry.page();
     let shape = Shape { geometry, la: pages * page, ld: dfu_pages * page, ls: words * geometry.ws as usize };
     let mut bench = shape.bench(random, Vec::new());
-    each_over(alphabet, start, shape.ls, |state| {
+    let (alphabet, start) = (for_value(geometry.ev, alphabet), for_value(geometry.ev, start));
+    each_over(&alphabet, &start, shape.ls, |state| {
         random.fill(&mut bench.active);
         random.fill(&mut bench.dfu);
         state.clone_into(&mut bench.state);

@@ -3,21 +3,31 @@
 use std::panic::{AssertUnwindSafe, catch_unwind};
 use std::process::exit;
 
-use call::{Answers, Bench, CUT, Call, Family, Hex, Kind, NO_STATE, Word, number_of, operations_of, pack};
+use call::{
+    Answers, Bench, CUT, Call, Family, Hex, Kind, NO_STATE, Original, Word, ZEROS, number_of, operations_of,
+    pack,
+};
 use library::GuardedLibrary;
 use model::Model;
 use model::table::{self, Lengths};
-use original::Original;
 
 const MOST_DIFFERENCES: usize = 10;
 
 /// Up to this many operations `sweep` tries every budget; above, the end and some before.
 const SWEEP_ALL: u32 = 600;
 
+/// The calls at the erase value 0, and those of them that the original decided.
+#[derive(Default)]
+struct Share {
+    calls: u64,
+    by_original: u64,
+}
+
 #[derive(Default)]
 pub struct Judge {
     counts: [u64; 14],
     by_original: u64,
+    at_zero: Share,
     refused: u64,
     cut: u64,
     differences: usize,
@@ -40,7 +50,7 @@ impl Judge {
         let known = !Model::finishes_confirmation(call, &self.expected.lend());
         let word = match side.filter(|_| known && (refusal == 0 || refusal == 5)) {
             Some(side) => {
-                self.by_original += 1;
+                self.count_original(call);
                 let word = self.ask_original(side, call, before);
                 self.check_model(call, before, word);
                 word
@@ -58,11 +68,21 @@ impl Judge {
     fn compare(&mut self, call: &Call, before: &Bench, word: u64) {
         self.found.clone_from(before);
         let found = self.ask_library(call, before);
-        self.counts[call.kind as usize] += 1;
+        self.count(call);
         self.cut += u64::from(number_of(word) == u64::from(CUT) && call.kind != Kind::StateFrom);
         if found != word || self.found != self.expected {
             self.report("library", call, before, word, found, None);
         }
+    }
+
+    fn count(&mut self, call: &Call) {
+        self.counts[call.kind as usize] += 1;
+        self.at_zero.calls += u64::from(erases_to_zero(call));
+    }
+
+    fn count_original(&mut self, call: &Call) {
+        self.by_original += 1;
+        self.at_zero.by_original += u64::from(erases_to_zero(call));
     }
 
     fn ask_library(&mut self, call: &Call, before: &Bench) -> u64 {
@@ -78,6 +98,11 @@ impl Judge {
     }
 
     fn ask_original(&mut self, side: &dyn Original, call: &Call, before: &Bench) -> u64 {
+        let takes_it = call.kind.family() != Family::Bytes;
+        assert!(
+            !takes_it || side.erase_value() == call.geometry.ev,
+            "the text for another erase value is asked"
+        );
         let lent = self.expected.lend();
         match catch_unwind(AssertUnwindSafe(|| side.answer(call, lent))) {
             Ok(word) => word,
@@ -115,8 +140,8 @@ impl Judge {
         self.found.clone_from(before);
         for (i, (call, word)) in calls.iter().zip(&words).enumerate() {
             let found = self.ask_library(call, before);
-            self.counts[call.kind as usize] += 1;
-            self.by_original += 1;
+            self.count(call);
+            self.count_original(call);
             if found != *word {
                 self.report("library", call, before, *word, found, Some(i));
                 return;
@@ -211,6 +236,10 @@ impl Judge {
             "{} decided by the original, {} cut, {} refused; the rest by the model",
             self.by_original, self.cut, self.refused
         );
+        println!(
+            "{} with the erase value 0, {} of them decided by the original",
+            self.at_zero.calls, self.at_zero.by_original
+        );
         let end = match self.differences {
             0 => "no difference".to_string(),
             n => format!("{n} differences"),
@@ -218,6 +247,11 @@ impl Judge {
         println!("{} calls compared ({}): {end}", self.total(), kinds.join(", "));
         self.differences == 0
     }
+}
+
+/// Whether the call reads an erase value, and it is 0.
+fn erases_to_zero(call: &Call) -> bool {
+    call.kind.family() != Family::Bytes && call.geometry.ev == ZEROS
 }
 
 /// The table's number for this call.
@@ -235,7 +269,8 @@ pub fn refusal_of(call: &Call, before: &Bench) -> u8 {
 fn print_call(call: &Call, before: &Bench) {
     let g = &call.geometry;
     println!("  {}", call.kind.name());
-    println!("  geometry Ea {} Wa {} Ed {} Wd {} Es {} Ws {} b {}", g.ea, g.wa, g.ed, g.wd, g.es, g.ws, g.b);
+    print!("  geometry Ea {} Wa {} Ed {} Wd {} Es {} Ws {} b {}", g.ea, g.wa, g.ed, g.wd, g.es, g.ws, g.b);
+    println!(" erase value {}", g.ev);
     println!("  lengths La {} Ld {} Ls {}", before.active.len(), before.dfu.len(), before.state.len());
     println!("  budget {} offset {} last {}", call.budget, call.offset, before.last);
     println!("  data   {}", Hex(call.data));

@@ -1,7 +1,6 @@
 //! Lives of a device: all calls mixed on one bench, each going on from where the one before was cut.
 
-use call::{Bench, Call, Kind};
-use original::Original;
+use call::{Bench, Call, Kind, Original};
 
 use crate::judge::Judge;
 use crate::random::Random;
@@ -16,7 +15,7 @@ pub fn lives(judge: &mut Judge, random: &mut Random) {
         }
         let state = match random.below(3) {
             0 => states::random_state(random, &shape),
-            _ => vec![0xFF; shape.ls],
+            _ => shape.erased_state(),
         };
         let mut bench = shape.bench(random, state);
         for _ in 0..60 {

@@ -3,8 +3,7 @@
 
 use std::process::exit;
 
-use call::{Bench, Call, Kind, number_of};
-use original::Original;
+use call::{Bench, Call, Kind, Original, number_of};
 
 use crate::boots::boot;
 use crate::judge::Judge;
@@ -89,7 +88,7 @@ fn swap_table(shape: &Shape, start: &Bench) -> Bench {
     let mut end = start.clone();
     end.active.copy_from_slice(&start.dfu[..n * p]);
     end.dfu[p..(n + 1) * p].copy_from_slice(&start.active);
-    end.state[2 * w..(2 + 2 * n) * w].fill(0);
+    end.state[2 * w..(2 + 2 * n) * w].fill(shape.geometry.marked());
     end
 }
 
@@ -105,10 +104,10 @@ fn revert_images(shape: &Shape, start: &Bench) -> (Vec<u8>, Vec<u8>) {
 fn broken_off(shape: &Shape) -> Vec<Vec<u8>> {
     let (n, w) = (shape.pages(), shape.word());
     let mut marked = states::fresh(shape);
-    marked[w..(2 + 4 * n) * w].fill(0);
+    marked[w..(2 + 4 * n) * w].fill(shape.geometry.marked());
     let erased = |units: usize| {
         let mut state = marked.clone();
-        state[..units * shape.geometry.es as usize].fill(0xFF);
+        state[..units * shape.geometry.es as usize].fill(shape.geometry.erased());
         state
     };
     (1..=shape.state_units()).map(erased).collect()

@@ -1,7 +1,7 @@
 //! Refusals: for every call each number and length at its limits, alone and two at a time. The table decides;
 //! where a changed input is still admitted, the original does if it is compiled for these numbers, else the model.
 
-use call::{Bench, Call, Family, Geometry, Kind, NO_SECTOR};
+use call::{Bench, Call, ERASE_VALUES, Family, Geometry, Kind, NO_SECTOR, ONES};
 
 use crate::judge::{Judge, refusal_of};
 use crate::random::Random;
@@ -12,26 +12,29 @@ use crate::shapes;
 struct Input {
     /// Ea, Wa, Ed, Wd, Es, Ws, b
     numbers: [u32; 7],
+    ev: u32,
     la: usize,
     ld: usize,
     ls: usize,
     offset: u64,
     data: usize,
     out: usize,
-    magic: u8,
+    /// what word 0 holds; erased without one
+    magic: Option<u8>,
 }
 
 /// One change of one of them.
 #[derive(Clone, Copy)]
 enum Change {
     Number(usize, u32),
+    EraseValue(u32),
     La(usize),
     Ld(usize),
     Ls(usize),
     Offset(u64),
     Data(usize),
     Out(usize),
-    Magic(u8),
+    Magic(Option<u8>),
 }
 
 impl Input {
@@ -39,6 +42,7 @@ impl Input {
         let mut next = *self;
         match *change {
             Change::Number(i, value) => next.numbers[i] = value,
+            Change::EraseValue(value) => next.ev = value,
             Change::La(value) => next.la = value,
             Change::Ld(value) => next.ld = value,
             Change::Ls(value) => next.ls = value,
@@ -52,7 +56,7 @@ impl Input {
 
     fn geometry(&self) -> Geometry {
         let [ea, wa, ed, wd, es, ws, b] = self.numbers;
-        Geometry { ea, wa, ed, wd, es, ws, b }
+        Geometry { ea, wa, ed, wd, es, ws, b, ev: self.ev }
     }
 
     /// Everything worth changing for this kind of call.
@@ -69,6 +73,9 @@ impl Input {
             let values = [0, 1, 2, 3, x - 1, x + 1, 2 * x, 65_535, 65_536, 65_537, 1 << 31, u32::MAX];
             all.extend(values.map(|value| Change::Number(*i, value)));
         }
+        // beside the two that are admitted: near them, and those whose low byte is one of them
+        let values = [0, 255, 1, 2, 128, 254, 256, 511, 65_535, 65_536, u32::MAX];
+        all.extend(values.map(Change::EraseValue));
         let page = self.numbers[0].max(self.numbers[2]) as usize;
         let [_, _, ed, wd, es, ws, _] = self.numbers.map(|x| x as usize);
         if kind.family() == Family::Boot {
@@ -81,7 +88,7 @@ impl Input {
         all.extend(around(self.ls, es).map(Change::Ls));
         all.extend(around(self.ls, ws).map(Change::Ls));
         all.extend([ws, 2 * ws, 3 * ws, es, 2 * es, 3 * es].map(Change::Ls));
-        all.extend([0xF0, 0xFF].map(Change::Magic));
+        all.extend([Some(0xF0), None].map(Change::Magic));
         if kind == Kind::ReadDfu {
             all.extend(around(self.out, 1).map(Change::Out));
             all.extend(
@@ -126,7 +133,7 @@ fn around(length: usize, unit: usize) -> [usize; 8] {
     ]
 }
 
-/// Admitted inputs to start from; the first is the sheet's.
+/// Admitted inputs to start from, at the erase value 255; the first is the sheet's.
 const STARTS: [Input; 6] = [
     Input { numbers: [4, 2, 4, 2, 16, 1, 2], la: 12, ld: 16, ls: 16, ..PLAIN },
     Input { numbers: [4, 2, 4, 2, 2, 2, 4], la: 4, ld: 12, ls: 14, ..PLAIN },
@@ -136,7 +143,8 @@ const STARTS: [Input; 6] = [
     Input { numbers: [64, 16, 64, 32, 40, 8, 32], la: 128, ld: 256, ls: 120, ..PLAIN },
 ];
 
-const PLAIN: Input = Input { numbers: [0; 7], la: 0, ld: 0, ls: 0, offset: 0, data: 0, out: 0, magic: 0xFF };
+const PLAIN: Input =
+    Input { numbers: [0; 7], ev: ONES, la: 0, ld: 0, ls: 0, offset: 0, data: 0, out: 0, magic: None };
 
 /// The bench and data that inputs are laid out on; kept, so that long areas are allocated once.
 #[derive(Default)]
@@ -150,9 +158,12 @@ impl Table {
         let bench = &mut self.bench;
         bench.active.resize(input.la, 0x3C);
         bench.dfu.resize(input.ld, 0x5A);
-        bench.state.resize(input.ls, 0xFF);
-        let word = (input.numbers[5] as usize).min(input.ls);
-        bench.state[..word].fill(input.magic);
+        bench.state.clear();
+        bench.state.resize(input.ls, input.ev as u8);
+        if let Some(magic) = input.magic {
+            let word = (input.numbers[5] as usize).min(input.ls);
+            bench.state[..word].fill(magic);
+        }
         bench.out.resize(input.out, 0x77);
         bench.last = 1;
         self.data.resize(input.data, 0x0F);
@@ -160,24 +171,18 @@ impl Table {
         (call, bench)
     }
 
-    /// Takes the magic back, so that the next input finds FF.
-    fn clear(&mut self) {
-        self.bench.state.fill(0xFF);
-    }
-
     fn ask(&mut self, judge: &mut Judge, kind: Kind, input: &Input, budget: u32) {
         let (call, bench) = self.lay_out(kind, input, budget);
         judge.call(shapes::compiled(&call.geometry), &call, bench);
-        self.clear();
     }
 }
 
-/// Each start with no, one and two changes.
+/// Each start at both erase values with no, one and two changes.
 pub fn small(judge: &mut Judge, _: &mut Random) {
     let mut table = Table::default();
-    for start in STARTS {
+    for (ev, start) in ERASE_VALUES.into_iter().flat_map(|ev| STARTS.map(|start| (ev, start))) {
         for kind in Kind::ALL.into_iter().filter(|kind| *kind != Kind::StateFrom) {
-            let mut start = start;
+            let mut start = Input { ev, ..start };
             if kind == Kind::WriteFirmware {
                 start.data = start.numbers[3] as usize;
             }
@@ -205,7 +210,7 @@ pub fn random(judge: &mut Judge, random: &mut Random) {
     let mut table = Table::default();
     for _ in 0..60_000 {
         let kind = *random.pick(&Kind::ALL[..13]);
-        let mut input = *random.pick(&STARTS);
+        let mut input = Input { ev: *random.pick(&ERASE_VALUES), ..*random.pick(&STARTS) };
         input.data = random.below(9);
         input.out = random.below(9);
         let changes = Input { ld: input.ld.max(9), ..input }.changes(kind);
@@ -222,7 +227,7 @@ pub fn samples(random: &mut Random, count: usize, mut visit: impl FnMut(&Call, &
     let mut found = 0;
     while found < count {
         let kind = Kind::ALL[found % 13];
-        let mut input = *random.pick(&STARTS[..5]);
+        let mut input = Input { ev: *random.pick(&ERASE_VALUES), ..*random.pick(&STARTS[..5]) };
         if kind == Kind::WriteFirmware {
             input.data = input.numbers[3] as usize;
         }
@@ -241,18 +246,24 @@ pub fn samples(random: &mut Random, count: usize, mut visit: impl FnMut(&Call, &
             visit(&call, bench);
             found += 1;
         }
-        table.clear();
     }
 }
 
-/// Lengths at 16,777,216, and the numbers at 65,536 where they are admitted.
+/// Lengths at 16,777,216, and the numbers at 65,536 where they are admitted; at both erase values.
 pub fn large(judge: &mut Judge, _: &mut Random) {
+    for ev in ERASE_VALUES {
+        large_at(judge, ev);
+    }
+}
+
+fn large_at(judge: &mut Judge, ev: u32) {
     const LONGEST: usize = 16_777_216;
     let mut table = Table::default();
-    let mut page = Input { numbers: [65_536; 7], ..PLAIN };
+    let plain = Input { ev, ..PLAIN };
+    let mut page = Input { numbers: [65_536; 7], ..plain };
     page.ls = 2 * 65_536;
     // the largest numbers at once: one page needs seven words
-    let largest = Input { la: 65_536, ld: 131_072, ls: 458_752, magic: 0xF0, ..page };
+    let largest = Input { la: 65_536, ld: 131_072, ls: 458_752, magic: Some(0xF0), ..page };
     for budget in [0, 1, 3, 5, 6, u32::MAX] {
         table.ask(judge, Kind::PrepareBoot, &largest, budget);
     }
@@ -270,14 +281,20 @@ pub fn large(judge: &mut Judge, _: &mut Random) {
     // erase sizes that share no divisor: pages of 1,048,575 and, past the limit, of 1,048,577 bytes
     for [ea, ed] in [[1023, 1025], [1025, 1023], [17, 61_681], [61_681, 17]] {
         let page = (ea * ed) as usize;
-        let unlike =
-            Input { numbers: [ea, 1, ed, 1, 7, 1, 1], la: page, ld: 2 * page, ls: 7, magic: 0xF0, ..PLAIN };
+        let unlike = Input {
+            numbers: [ea, 1, ed, 1, 7, 1, 1],
+            la: page,
+            ld: 2 * page,
+            ls: 7,
+            magic: Some(0xF0),
+            ..plain
+        };
         for budget in [0, 1, 2, 1022, 1023, 1024, 2000, 1_100_000] {
             table.ask(judge, Kind::PrepareBoot, &unlike, budget);
         }
     }
     // small areas of the same units, so that each length is admitted by itself; the original is compiled for them
-    let paged = Input { numbers: [4096, 4, 4096, 4, 4096, 4, 256], la: 4096, ld: 8192, ls: 8192, ..PLAIN };
+    let paged = Input { numbers: [4096, 4, 4096, 4, 4096, 4, 256], la: 4096, ld: 8192, ls: 8192, ..plain };
     for length in [LONGEST - 1, LONGEST, LONGEST + 1] {
         // a call on such areas takes long, and one byte less than the limit is like any other length
         let kinds = if length < LONGEST { 1 } else { 13 };
@@ -287,11 +304,11 @@ pub fn large(judge: &mut Judge, _: &mut Random) {
             }
         }
         // a length above the limit is refused before anything else, a number out of range with it
-        let both = STARTS[0].with(&Change::Ld(length)).with(&Change::Number(4, 7));
+        let both = Input { ev, ..STARTS[0] }.with(&Change::Ld(length)).with(&Change::Number(4, 7));
         table.ask(judge, Kind::PrepareBoot, &both, 2);
         table.ask(judge, Kind::UpdaterMarkDfu, &both, 2);
         // output and data aren't flash areas
-        let long = Input { out: length, data: length, ..STARTS[4] };
+        let long = Input { ev, out: length, data: length, ..STARTS[4] };
         table.ask(judge, Kind::ReadDfu, &long, 0);
         table.ask(judge, Kind::WriteFirmware, &long, u32::MAX);
         let whole = long.with(&Change::Ld(length));

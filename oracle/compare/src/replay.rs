@@ -4,10 +4,9 @@ use std::fs;
 use std::io;
 use std::path::Path;
 
-use call::{Answers, Bench, Call, Geometry, Kind, NO_SECTOR, Word, operations_of};
+use call::{Answers, Bench, Call, Geometry, Kind, NO_SECTOR, Original, Word, operations_of};
 use library::Library;
 use model::Model;
-use original::Original;
 
 use crate::judge::refusal_of;
 use crate::random::Random;
@@ -17,10 +16,10 @@ use crate::states;
 
 const SEED: u64 = 0x0EBB;
 const MAGIC: &[u8; 4] = b"EBRP";
-const VERSION: u32 = 1;
+const VERSION: u32 = 2;
 
 /// Bytes of a record before its areas.
-const FIXED: usize = 84;
+const FIXED: usize = 88;
 
 struct Record {
     call: Vec<u8>,
@@ -75,7 +74,7 @@ fn pack_record(side: &dyn Answers, call: &Call, before: &Bench) -> Record {
     put(&mut bytes, (FIXED + areas) as u32);
     put(&mut bytes, call.kind as u32);
     let g = &call.geometry;
-    for number in [g.ea, g.wa, g.ed, g.wd, g.es, g.ws, g.b] {
+    for number in [g.ea, g.wa, g.ed, g.wd, g.es, g.ws, g.b, g.ev] {
         put(&mut bytes, number);
     }
     for length in lengths {
@@ -98,7 +97,7 @@ fn pack_record(side: &dyn Answers, call: &Call, before: &Bench) -> Record {
     Record { call: bytes, kind: call.kind }
 }
 
-/// Small shapes of the compiled rows.
+/// Small shapes of the compiled rows, of both erase values alike.
 fn small() -> Vec<(&'static dyn Original, Shape)> {
     let mut all = all_shapes();
     all.retain(|(_, shape)| shape.la + shape.ld <= 48 && shape.ls <= 40);
@@ -149,9 +148,9 @@ fn turning_point(random: &mut Random, shape: &Shape) -> Bench {
     let mut state = states::after_steps(shape, random.below(marks + 1));
     let mark = 2 + random.below((4 * n + 1).min(marks));
     match random.below(3) {
-        0 => state[word + random.below(word)] = 0,
+        0 => state[word + random.below(word)] = shape.geometry.marked(),
         1 => state[mark * word + random.below(word)] ^= 0xFF,
-        _ => state[mark * word..(mark + 1) * word].fill(0xFF),
+        _ => state[mark * word..(mark + 1) * word].fill(shape.geometry.erased()),
     }
     shape.bench(random, state)
 }
@@ -176,7 +175,7 @@ fn other(random: &mut Random, side: &dyn Original, shape: &Shape, kind: Kind) ->
     let mut state = states::random_state(random, shape);
     if !random.once_in(4) {
         // most random states read Swap, where the updater only says no
-        state[..shape.word()].fill(*random.pick(&[0xFF, 0xD0, 0xC0, 0xE0]));
+        state[..shape.word()].fill(*random.pick(&[shape.geometry.erased(), 0xD0, 0xC0, 0xE0]));
     }
     let mut bench = Bench { last: NO_SECTOR, ..Bench::default() };
     if matches!(kind.family(), State | Updater) {
@@ -258,8 +257,8 @@ pub fn check(path: &Path) -> io::Result<(usize, usize)> {
 fn replay_one(i: usize, mut reader: Reader) -> bool {
     reader.number();
     let kind = Kind::ALL[reader.number() as usize];
-    let [ea, wa, ed, wd, es, ws, b] = std::array::from_fn(|_| reader.number());
-    let geometry = Geometry { ea, wa, ed, wd, es, ws, b };
+    let [ea, wa, ed, wd, es, ws, b, ev] = std::array::from_fn(|_| reader.number());
+    let geometry = Geometry { ea, wa, ed, wd, es, ws, b, ev };
     let [la, ld, ls, data_length, out_length] = std::array::from_fn(|_| reader.number() as usize);
     let budget = reader.number();
     let offset = reader.long();

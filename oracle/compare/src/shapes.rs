@@ -1,7 +1,6 @@
 //! Geometries with their lengths: for each compiled row many chunks and lengths, and random admitted ones.
 
-use call::{Bench, Geometry, NO_SECTOR, least_common};
-use original::{Original, TABLE};
+use call::{Bench, ERASE_VALUES, Geometry, NO_SECTOR, Original, least_common};
 
 use crate::random::Random;
 
@@ -42,6 +41,11 @@ impl Shape {
         (cost(g.ed), cost(g.ea))
     }
 
+    /// The state area with nothing in it.
+    pub fn erased_state(&self) -> Vec<u8> {
+        vec![self.geometry.erased(); self.ls]
+    }
+
     /// The erase units of the state area.
     pub fn state_units(&self) -> usize {
         self.ls / self.geometry.es as usize
@@ -72,10 +76,15 @@ pub fn image(random: &mut Random, length: usize, page: usize) -> Vec<u8> {
     }
 }
 
+/// Every compiled row, first those for the erase value 255, then those for 0.
+pub fn rows() -> impl Iterator<Item = &'static dyn Original> {
+    original::TABLE.iter().chain(original_zero::TABLE).copied()
+}
+
 /// The row's numbers with a chunk.
 pub fn geometry_of(row: &dyn Original, b: usize) -> Geometry {
     let [ea, wa, ed, wd, es, ws] = row.numbers();
-    Geometry { ea, wa, ed, wd, es, ws, b: b as u32 }
+    Geometry { ea, wa, ed, wd, es, ws, b: b as u32, ev: row.erase_value() }
 }
 
 /// Chunks that document 01 admits with these numbers, rising.
@@ -123,18 +132,18 @@ pub fn shapes_of(row: &dyn Original) -> Vec<Shape> {
 
 /// All shapes of all compiled rows, with their side.
 pub fn all_shapes() -> Vec<(&'static dyn Original, Shape)> {
-    TABLE.iter().flat_map(|row| shapes_of(*row).into_iter().map(move |shape| (*row, shape))).collect()
+    rows().flat_map(|row| shapes_of(row).into_iter().map(move |shape| (row, shape))).collect()
 }
 
 /// The row compiled for a geometry, if there is one.
 pub fn compiled(g: &Geometry) -> Option<&'static dyn Original> {
     let numbers = [g.ea, g.wa, g.ed, g.wd, g.es, g.ws];
-    TABLE.iter().find(|row| row.numbers() == numbers).copied()
+    rows().find(|row| row.numbers() == numbers && row.erase_value() == g.ev)
 }
 
-/// The compiled row with these numbers.
-pub fn row(numbers: [u32; 6]) -> &'static dyn Original {
-    *TABLE.iter().find(|row| row.numbers() == numbers).expect("a compiled row")
+/// The compiled row with these numbers, for an erase value.
+pub fn row(numbers: [u32; 6], ev: u32) -> &'static dyn Original {
+    rows().find(|row| row.numbers() == numbers && row.erase_value() == ev).expect("a compiled row")
 }
 
 /// An admitted shape for boot with numbers that need not be compiled: built from the smallest unit upwards.
@@ -160,6 +169,7 @@ pub fn random_shape(random: &mut Random) -> Shape {
         es: es as u32,
         ws: ws as u32,
         b: b as u32,
+        ev: *random.pick(&ERASE_VALUES),
     };
     let ls = *random.pick(&state_lengths(&geometry, pages));
     Shape { geometry, la: pages * page, ld: (pages + 1 + random.below(3)) * page, ls }

@@ -1,5 +1,7 @@
 //! Contents of the state area: fresh, half done, damaged, with gaps and odd marks, magics and near misses.
 
+use call::ZEROS;
+
 use crate::random::Random;
 use crate::shapes::Shape;
 
@@ -9,16 +11,20 @@ pub const MAGICS: [u8; 4] = [0xD0, 0xF0, 0xC0, 0xE0];
 /// Bytes that a reader of the state area could take for another.
 pub const ODD: [u8; 10] = [0x00, 0xFF, 0xF0, 0xD0, 0xC0, 0xE0, 0x7F, 0xFE, 0x01, 0xA5];
 
-/// The Swap magic and FF elsewhere.
-pub fn fresh(shape: &Shape) -> Vec<u8> {
-    let mut state = vec![0xFF; shape.ls];
-    state[..shape.word()].fill(SWAP);
-    state
+/// Bytes as they are written for the erase value 255, for a flash of either: FF stands for erased, 00 for marked.
+pub fn for_value(ev: u32, bytes: &[u8]) -> Vec<u8> {
+    let turned = |byte: &u8| if ev == ZEROS && matches!(byte, 0x00 | 0xFF) { !byte } else { *byte };
+    bytes.iter().map(turned).collect()
 }
 
-/// A state area with `magic` and FF elsewhere.
+/// The Swap magic, and erased elsewhere.
+pub fn fresh(shape: &Shape) -> Vec<u8> {
+    only_magic(shape, SWAP)
+}
+
+/// A state area with `magic`, and erased elsewhere.
 pub fn only_magic(shape: &Shape, magic: u8) -> Vec<u8> {
-    let mut state = vec![0xFF; shape.ls];
+    let mut state = shape.erased_state();
     state[..shape.word()].fill(magic);
     state
 }
@@ -28,7 +34,7 @@ pub fn after_steps(shape: &Shape, steps: usize) -> Vec<u8> {
     let mut state = fresh(shape);
     let word = shape.word();
     let end = (2 + steps).min(shape.words());
-    state[2 * word..end * word].fill(0);
+    state[2 * word..end * word].fill(shape.geometry.marked());
     state
 }
 
@@ -38,12 +44,12 @@ pub fn random_state(random: &mut Random, shape: &Shape) -> Vec<u8> {
     let mut state = after_steps(shape, steps);
     let word = shape.word();
     spoil_magic(random, &mut state[..word]);
-    spoil_validity(random, &mut state[word..2 * word]);
+    spoil_validity(random, &mut state[word..2 * word], shape.geometry.marked());
     let marks = &mut state[2 * word..];
     match random.below(6) {
         0 | 1 => {}
         2 => gaps(random, marks, word),
-        3 => odd_marks(random, marks),
+        3 => odd_marks(random, marks, shape.geometry.erased()),
         4 => torn_marks(random, marks, word),
         _ => {
             for byte in marks.iter_mut() {
@@ -83,9 +89,9 @@ fn spoil_magic(random: &mut Random, magic: &mut [u8]) {
     }
 }
 
-fn spoil_validity(random: &mut Random, validity: &mut [u8]) {
+fn spoil_validity(random: &mut Random, validity: &mut [u8], marked: u8) {
     match random.below(10) {
-        0 => validity.fill(0),
+        0 => validity.fill(marked),
         1 => {
             let at = random.below(validity.len());
             validity[at] = *random.pick(&ODD);
@@ -105,16 +111,16 @@ fn gaps(random: &mut Random, marks: &mut [u8], word: usize) {
     }
 }
 
-/// Done bytes that aren't 00.
-fn odd_marks(random: &mut Random, marks: &mut [u8]) {
-    for byte in marks.iter_mut().filter(|byte| **byte == 0) {
+/// Done bytes that aren't what a mark writes: any byte but the erased one, which a bit of its own keeps away.
+fn odd_marks(random: &mut Random, marks: &mut [u8], erased: u8) {
+    for byte in marks.iter_mut().filter(|byte| **byte == !erased) {
         if random.once_in(3) {
-            *byte = random.byte() & 0xFE;
+            *byte = (random.byte() & 0xFE) | (!erased & 1);
         }
     }
 }
 
-/// Marks with one byte changed: undone ones that have begun, done ones that show an FF.
+/// Marks with one byte changed: undone ones that have begun, done ones that show an erased byte.
 fn torn_marks(random: &mut Random, marks: &mut [u8], word: usize) {
     for mark in marks.chunks_mut(word) {
         if random.once_in(3) {
@@ -151,6 +157,19 @@ pub fn each_over(alphabet: &[u8], start: &[u8], length: usize, mut visit: impl F
 #[cfg(test)]
 mod tests {
     use super::*;
+
+    #[test]
+    fn odd_marks_are_done_at_both_values() {
+        let mut random = Random::new(1);
+        for erased in [0xFF, 0x00] {
+            let mut marks = vec![!erased; 4000];
+            odd_marks(&mut random, &mut marks, erased);
+            assert!(marks.iter().all(|byte| *byte != erased));
+            assert!(marks.iter().any(|byte| *byte != !erased));
+        }
+        assert_eq!(for_value(0, &[0xF0, 0xFF, 0x00, 0x7F]), [0xF0, 0x00, 0xFF, 0x7F]);
+        assert_eq!(for_value(255, &[0xF0, 0xFF, 0x00]), [0xF0, 0xFF, 0x00]);
+    }
 
     #[test]
     fn all_are_visited_once() {

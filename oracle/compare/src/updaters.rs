@@ -1,11 +1,10 @@
 //! The firmware state's and the updater's calls, and State::from.
 
-use call::{Bench, Call, Geometry, Kind, NO_SECTOR};
-use original::{Original, TABLE};
+use call::{Bench, Call, ERASE_VALUES, Geometry, Kind, NO_SECTOR, Original};
 
 use crate::judge::Judge;
 use crate::random::Random;
-use crate::shapes::{Shape, geometry_of, image, random_shape, row};
+use crate::shapes::{Shape, geometry_of, image, random_shape, row, rows};
 use crate::states::{self, MAGICS, ODD, each_over};
 
 /// Calls of the updater and the firmware state that take neither data nor output.
@@ -35,23 +34,23 @@ fn small_shape(side: &dyn Original, sectors: usize, units: usize) -> Shape {
 
 /// Every plain call on every compiled row, with states of every kind and every budget.
 pub fn plain_calls(judge: &mut Judge, random: &mut Random) {
-    for side in TABLE {
+    for side in rows() {
         for (sectors, units) in [(0, 1), (1, 1), (2, 2), (3, 5)] {
-            let shape = small_shape(*side, sectors, units);
+            let shape = small_shape(side, sectors, units);
             let mut areas = vec![vec![0xFF; shape.ls], vec![0x00; shape.ls]];
             areas.extend(MAGICS.map(|magic| states::only_magic(&shape, magic)));
             areas.extend((0..34).map(|_| states::random_state(random, &shape)));
             for state in areas {
                 let bench = shape.bench(random, state);
                 for kind in PLAIN {
-                    judge.sweep(Some(*side), &plain(kind, shape.geometry), &bench);
+                    judge.sweep(Some(side), &plain(kind, shape.geometry), &bench);
                 }
             }
         }
     }
 }
 
-/// Every state area over an alphabet on the smallest state areas: all plain calls, every budget.
+/// Every state area over an alphabet on the smallest state areas: all plain calls, every budget, both erase values.
 pub fn exhaustive_marks(judge: &mut Judge, random: &mut Random) {
     let smallest: [([u32; 6], usize, &[u8]); 4] = [
         ([1, 1, 1, 1, 1, 1], 2, &ODD),
@@ -59,24 +58,27 @@ pub fn exhaustive_marks(judge: &mut Judge, random: &mut Random) {
         ([2, 1, 2, 1, 2, 2], 4, &[0x00, 0xFF, 0xF0, 0xD0, 0xE0]),
         ([1, 1, 1, 1, 3, 3], 6, &[0x00, 0xFF, 0xF0]),
     ];
-    for (numbers, length, alphabet) in smallest {
-        let side = row(numbers);
+    for ev in ERASE_VALUES {
+        for (numbers, length, alphabet) in smallest {
+            let side = row(numbers, ev);
+            let geometry = geometry_of(side, 1);
+            let mut bench = Bench { dfu: random.bytes(2 * geometry.ed as usize), ..Bench::default() };
+            each_over(alphabet, &[], length, |state| {
+                state.clone_into(&mut bench.state);
+                for kind in PLAIN {
+                    judge.sweep(Some(side), &plain(kind, geometry), &bench);
+                }
+            });
+        }
+        // the bench's last example: every byte alone as the first word
+        let side = row([4, 2, 4, 2, 4, 4], ev);
         let geometry = geometry_of(side, 1);
-        let mut bench = Bench { dfu: random.bytes(2 * geometry.ed as usize), ..Bench::default() };
-        each_over(alphabet, &[], length, |state| {
-            state.clone_into(&mut bench.state);
+        for byte in 0..=255 {
+            let state = [vec![byte; 4], vec![geometry.erased(); 4]].concat();
+            let bench = Bench { dfu: vec![geometry.marked(); 4], state, ..Bench::default() };
             for kind in PLAIN {
                 judge.sweep(Some(side), &plain(kind, geometry), &bench);
             }
-        });
-    }
-    // the bench's last example: every byte alone as the first word
-    let side = row([4, 2, 4, 2, 4, 4]);
-    for byte in 0..=255 {
-        let bench =
-            Bench { dfu: vec![0; 4], state: [vec![byte; 4], vec![0xFF; 4]].concat(), ..Bench::default() };
-        for kind in PLAIN {
-            judge.sweep(Some(side), &plain(kind, geometry_of(side, 1)), &bench);
         }
     }
 }
@@ -91,7 +93,7 @@ fn memories(sectors: usize) -> Vec<u32> {
 
 /// write_firmware at every offset and length, aligned or not, in reach or not, on small DFUs.
 pub fn exhaustive_writes(judge: &mut Judge, random: &mut Random) {
-    let rows: [([u32; 6], usize); 9] = [
+    let sizes: [([u32; 6], usize); 9] = [
         ([1, 1, 1, 1, 1, 1], 4),
         ([2, 1, 2, 1, 2, 2], 4),
         ([2, 2, 2, 2, 3, 3], 4),
@@ -102,14 +104,15 @@ pub fn exhaustive_writes(judge: &mut Judge, random: &mut Random) {
         ([3, 1, 3, 3, 6, 3], 3),
         ([8, 4, 8, 2, 8, 1], 2),
     ];
-    for (numbers, sectors) in rows {
-        let side = row(numbers);
+    for (ev, (numbers, sectors)) in ERASE_VALUES.into_iter().flat_map(|ev| sizes.map(|row| (ev, row))) {
+        let side = row(numbers, ev);
         let shape = small_shape(side, sectors, 2);
-        for magic in [0xFF, 0xFF, 0xD0, 0xC0, 0xE0, 0xF0] {
+        let erased = shape.geometry.erased();
+        for magic in [erased, erased, 0xD0, 0xC0, 0xE0, 0xF0] {
             let state = states::only_magic(&shape, magic);
             let mut bench = shape.bench(random, state);
             // a state other than Boot only has to be told apart, not swept at length
-            let step = if magic == 0xFF { 1 } else { 3 };
+            let step = if magic == erased { 1 } else { 3 };
             for offset in (0..=shape.ld as u64 + 1).step_by(step) {
                 for length in (0..=shape.ld + 1).step_by(step) {
                     bench.dfu = image(random, shape.ld, shape.geometry.ed as usize);
@@ -129,8 +132,8 @@ pub fn exhaustive_writes(judge: &mut Judge, random: &mut Random) {
 
 /// write_firmware on every compiled row with random aligned offsets and lengths.
 pub fn random_writes(judge: &mut Judge, random: &mut Random) {
-    for side in TABLE {
-        let shape = small_shape(*side, 5, 3);
+    for side in rows() {
+        let shape = small_shape(side, 5, 3);
         let write = shape.geometry.wd as usize;
         let units = shape.ld / write;
         for _ in 0..120 {
@@ -147,7 +150,7 @@ pub fn random_writes(judge: &mut Judge, random: &mut Random) {
                 offset: (from * write) as u64,
                 data: &data,
             };
-            judge.sweep(Some(*side), &call, &bench);
+            judge.sweep(Some(side), &call, &bench);
         }
     }
 }
@@ -162,8 +165,8 @@ pub fn rows_of_calls(judge: &mut Judge, random: &mut Random) {
         Kind::UpdaterMarkBooted,
         Kind::PrepareUpdate,
     ];
-    for side in TABLE {
-        let shape = small_shape(*side, 4, 2);
+    for side in rows() {
+        let shape = small_shape(side, 4, 2);
         let write = shape.geometry.wd as usize;
         if !shape.geometry.ed.is_multiple_of(shape.geometry.wd) {
             continue;
@@ -184,15 +187,15 @@ pub fn rows_of_calls(judge: &mut Judge, random: &mut Random) {
                     Call { kind, geometry: shape.geometry, budget, offset: (from * write) as u64, data }
                 })
                 .collect();
-            judge.chain(*side, &calls, &bench);
+            judge.chain(side, &calls, &bench);
         }
     }
 }
 
 /// read_dfu at every offset and length, in reach or not.
 pub fn reads(judge: &mut Judge, random: &mut Random) {
-    for side in TABLE {
-        let shape = small_shape(*side, 3, 2);
+    for side in rows() {
+        let shape = small_shape(side, 3, 2);
         let state = states::random_state(random, &shape);
         let mut bench = shape.bench(random, state);
         let all = shape.ld <= 24;
@@ -205,7 +208,7 @@ pub fn reads(judge: &mut Judge, random: &mut Random) {
             bench.out = random.bytes(length);
             let geometry = shape.geometry;
             let call = Call { kind: Kind::ReadDfu, geometry, budget: 0, offset: offset as u64, data: &[] };
-            judge.call(Some(*side), &call, &bench);
+            judge.call(Some(side), &call, &bench);
         }
         for offset in [u32::MAX, u32::MAX - 1, 1 << 31] {
             for length in [0, 1, 2] {
@@ -213,7 +216,7 @@ pub fn reads(judge: &mut Judge, random: &mut Random) {
                 let geometry = shape.geometry;
                 let call =
                     Call { kind: Kind::ReadDfu, geometry, budget: 0, offset: offset.into(), data: &[] };
-                judge.call(Some(*side), &call, &bench);
+                judge.call(Some(side), &call, &bench);
             }
         }
     }
@@ -221,11 +224,12 @@ pub fn reads(judge: &mut Judge, random: &mut Random) {
 
 /// State::from on all strings of up to three bytes over an alphabet, single bytes, and longer ones.
 pub fn state_from(judge: &mut Judge, random: &mut Random) {
-    let side = row([1, 1, 1, 1, 1, 1]);
+    // it takes no erase value, and the text compiled for each decides by turns
+    let mut sides = ERASE_VALUES.map(|ev| row([1, 1, 1, 1, 1, 1], ev)).into_iter().cycle();
     let bench = Bench { last: NO_SECTOR, ..Bench::default() };
     let mut ask = |data: &[u8]| {
         let call = Call { kind: Kind::StateFrom, geometry: Geometry::default(), budget: 0, offset: 0, data };
-        judge.call(Some(side), &call, &bench);
+        judge.call(sides.next(), &call, &bench);
     };
     for length in 0..=3 {
         each_over(&ODD, &[], length, &mut ask);

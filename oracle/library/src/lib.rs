@@ -57,10 +57,10 @@ pub struct Library;
 
 impl Answers for Library {
     fn answer(&self, call: &Call, lent: Lent) -> u64 {
-        let call::Geometry { ea, wa, ed, wd, es, ws, b } = call.geometry;
-        let all = Geometry { ea, wa, ed, wd, es, ws, b };
-        let firmware = FirmwareState { es, ws };
-        let sizes = Sizes { ed, wd, es, ws };
+        let call::Geometry { ea, wa, ed, wd, es, ws, b, ev } = call.geometry;
+        let all = Geometry { ea, wa, ed, wd, es, ws, b, ev };
+        let firmware = FirmwareState { es, ws, ev };
+        let sizes = Sizes { ed, wd, es, ws, ev };
         let Lent { active, dfu, state, out, last } = lent;
         let Call { budget, offset, data, .. } = *call;
         match call.kind {

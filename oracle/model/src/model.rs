@@ -3,7 +3,7 @@
 //!
 //! The model can be told to err in one named way (`Wrong`): that is how the comparison itself is tested.
 
-use call::{Answers, CUT, Call, DONE, Geometry, Kind, Lent, NO_SECTOR, NO_STATE, pack};
+use call::{Answers, CUT, Call, DONE, Geometry, Kind, Lent, NO_SECTOR, NO_STATE, ONES, ZEROS, pack};
 
 use crate::table::{self, Lengths};
 
@@ -39,8 +39,8 @@ pub enum Wrong {
     ReadDfuRefusesSwap,
     ShortStateAdmitted,
     ExactBudgetIsACut,
-    MarkDoneOnlyByZero,
-    InvalidOnlyByZero,
+    MarkDoneOnlyAsWritten,
+    InvalidOnlyAsWritten,
     ErasedSectorNotErased,
     PageWrittenAtOnce,
     EraseIsOneOperation,
@@ -55,10 +55,23 @@ pub enum Wrong {
     PageLimitLess,
     PageLimitMore,
     CopiesBeforeMarks,
+    EraseValueIgnored,
+    EraseValueLowByte,
+    ReadersSkipEraseValue,
+    EraseValueJudgedLast,
+    EraseValue0Refused,
+    EraseValue254Admitted,
+    AndAtZero,
+    OrAtOnes,
+    ErasedToOnes,
+    MarksOfZero,
+    InvalidationOfZero,
+    ValidityOfOnes,
+    MarkOpenByOnes,
 }
 
 impl Wrong {
-    pub const ALL: [(&'static str, Wrong); 44] = [
+    pub const ALL: [(&'static str, Wrong); 57] = [
         ("low-pages-first", Wrong::LowPagesFirst),
         ("revert-high-pages-first", Wrong::RevertHighPagesFirst),
         ("count-one-more", Wrong::CountOneMore),
@@ -87,8 +100,8 @@ impl Wrong {
         ("read-dfu-refuses-swap", Wrong::ReadDfuRefusesSwap),
         ("short-state-admitted", Wrong::ShortStateAdmitted),
         ("exact-budget-is-a-cut", Wrong::ExactBudgetIsACut),
-        ("mark-done-only-by-zero", Wrong::MarkDoneOnlyByZero),
-        ("invalid-only-by-zero", Wrong::InvalidOnlyByZero),
+        ("mark-done-only-as-written", Wrong::MarkDoneOnlyAsWritten),
+        ("invalid-only-as-written", Wrong::InvalidOnlyAsWritten),
         ("erased-sector-not-erased", Wrong::ErasedSectorNotErased),
         ("page-written-at-once", Wrong::PageWrittenAtOnce),
         ("erase-is-one-operation", Wrong::EraseIsOneOperation),
@@ -103,6 +116,20 @@ impl Wrong {
         ("page-limit-less", Wrong::PageLimitLess),
         ("page-limit-more", Wrong::PageLimitMore),
         ("copies-before-marks", Wrong::CopiesBeforeMarks),
+        // request No. 11: what the erase value may be, and what follows it
+        ("erase-value-ignored", Wrong::EraseValueIgnored),
+        ("erase-value-low-byte", Wrong::EraseValueLowByte),
+        ("readers-skip-erase-value", Wrong::ReadersSkipEraseValue),
+        ("erase-value-judged-last", Wrong::EraseValueJudgedLast),
+        ("erase-value-0-refused", Wrong::EraseValue0Refused),
+        ("erase-value-254-admitted", Wrong::EraseValue254Admitted),
+        ("and-at-zero", Wrong::AndAtZero),
+        ("or-at-ones", Wrong::OrAtOnes),
+        ("erased-to-ones", Wrong::ErasedToOnes),
+        ("marks-of-zero", Wrong::MarksOfZero),
+        ("invalidation-of-zero", Wrong::InvalidationOfZero),
+        ("validity-of-ones", Wrong::ValidityOfOnes),
+        ("mark-open-by-ones", Wrong::MarkOpenByOnes),
     ];
 
     pub fn named(name: &str) -> Option<Wrong> {
@@ -110,8 +137,6 @@ impl Wrong {
     }
 }
 
-const ERASED: u8 = 0xFF;
-const MARK: u8 = 0x00;
 const BOOT: u8 = 0;
 const SWAP: u8 = 1;
 const REVERT: u8 = 2;
@@ -174,6 +199,7 @@ impl Answers for Model {
         if call.kind == Kind::StateFrom {
             return u64::from(self.state_of(call.data));
         }
+        let call = &self.taken(call);
         let refused = self.refusal(call, &lent);
         if refused != 0 {
             return pack(refused, NO_STATE, 0);
@@ -220,6 +246,18 @@ impl Model {
         Model::RIGHT.state_of(run.word(0)) == SWAP && run.confirming(lent.active.len() / call.geometry.page())
     }
 
+    /// The call as it came, but for an erase value that is wrongly taken for another.
+    fn taken<'a>(&self, call: &Call<'a>) -> Call<'a> {
+        let ev = match (self.wrong, call.geometry.ev) {
+            (Wrong::EraseValueIgnored, ZEROS) => ONES,
+            (Wrong::EraseValueLowByte, ev) => ev & 0xFF,
+            (Wrong::ReadersSkipEraseValue, _) if !call.kind.has_budget() => ONES,
+            (Wrong::EraseValue254Admitted, 254) => ONES,
+            (_, ev) => ev,
+        };
+        with_erase_value(call, ev)
+    }
+
     fn refusal(&self, call: &Call, lent: &Lent) -> u8 {
         let lengths = Lengths {
             active: lent.active.len(),
@@ -246,6 +284,14 @@ impl Model {
             {
                 6
             }
+            Wrong::EraseValueJudgedLast if right == 1 => {
+                let swap = || self.state_of(&lent.state[..word]) == SWAP;
+                match table::refusal(&with_erase_value(call, ONES), &lengths, swap) {
+                    0 => right,
+                    later => later,
+                }
+            }
+            Wrong::EraseValue0Refused if call.geometry.ev == ZEROS => 1,
             Wrong::SwapNotRefused if right == 5 => table::refusal(call, &lengths, || false),
             Wrong::DfuMayEqualActive if right == 3 && call.kind == Kind::PrepareBoot => {
                 // says nothing about the short DFU; a later row may still speak
@@ -342,7 +388,7 @@ impl Model {
                         Area::Dfu => &mut *lent.dfu,
                         Area::State => &mut *lent.state,
                     };
-                    operation.apply(bytes, self.wrong);
+                    operation.apply(bytes, self.wrong, call.geometry.erased());
                     left -= 1;
                 }
             }
@@ -365,17 +411,33 @@ impl Operation {
         !matches!(self, Operation::Remember(_))
     }
 
-    fn apply(&self, area: &mut [u8], wrong: Wrong) {
+    fn apply(&self, area: &mut [u8], wrong: Wrong, erased: u8) {
         match self {
-            Operation::Erase { from, length, .. } => area[*from..from + length].fill(ERASED),
+            Operation::Erase { from, length, .. } => {
+                area[*from..from + length].fill(if wrong == Wrong::ErasedToOnes { 0xFF } else { erased })
+            }
             Operation::Write { at, bytes, .. } => {
                 for (old, new) in area[*at..].iter_mut().zip(bytes) {
-                    *old = if wrong == Wrong::WriteReplaces { *new } else { *old & *new };
+                    *old = written(wrong, erased, *old, *new);
                 }
             }
             Operation::Remember(_) => {}
         }
     }
+}
+
+/// Bits only go away from the erase value: they fall where it is FF and rise where it is 00.
+fn written(wrong: Wrong, erased: u8, old: u8, new: u8) -> u8 {
+    match (wrong, erased) {
+        (Wrong::WriteReplaces, _) => new,
+        (Wrong::AndAtZero, _) => old & new,
+        (Wrong::OrAtOnes, _) | (_, 0x00) => old | new,
+        _ => old & new,
+    }
+}
+
+fn with_erase_value<'a>(call: &Call<'a>, ev: u32) -> Call<'a> {
+    Call { geometry: Geometry { ev, ..call.geometry }, ..*call }
 }
 
 impl Run {
@@ -395,8 +457,8 @@ impl Run {
     fn perform(&mut self, operation: Operation) {
         match operation {
             Operation::Erase { area, .. } | Operation::Write { area, .. } => {
-                let wrong = self.wrong;
-                operation.apply(self.area_mut(area), wrong)
+                let (wrong, erased) = (self.wrong, self.geometry.erased());
+                operation.apply(self.area_mut(area), wrong, erased)
             }
             Operation::Remember(_) => {}
         }
@@ -431,6 +493,16 @@ impl Run {
         self.write(Area::State, word * self.word, vec![byte; self.word]);
     }
 
+    fn write_mark(&mut self, step: usize) {
+        let byte = if self.wrong == Wrong::MarksOfZero { 0x00 } else { self.geometry.marked() };
+        self.write_word(2 + step, byte);
+    }
+
+    fn invalidate(&mut self) {
+        let byte = if self.wrong == Wrong::InvalidationOfZero { 0x00 } else { self.geometry.marked() };
+        self.write_word(1, byte);
+    }
+
     fn area(&self, area: Area) -> &[u8] {
         match area {
             Area::Active => &self.active,
@@ -452,19 +524,23 @@ impl Run {
     }
 
     fn valid(&self) -> bool {
+        let (erased, marked) = (self.geometry.erased(), self.geometry.marked());
         match self.wrong {
-            Wrong::InvalidOnlyByZero => self.word(1).iter().any(|byte| *byte != MARK),
-            _ => self.word(1).iter().all(|byte| *byte == ERASED),
+            Wrong::InvalidOnlyAsWritten => self.word(1).iter().any(|byte| *byte != marked),
+            Wrong::ValidityOfOnes => self.word(1).iter().all(|byte| *byte == 0xFF),
+            _ => self.word(1).iter().all(|byte| *byte == erased),
         }
     }
 
-    /// A mark is done when no byte of it is FF.
+    /// A mark is done when no byte of it is erased.
     fn done(&self, step: usize) -> bool {
         let word = self.word(2 + step);
+        let (erased, marked) = (self.geometry.erased(), self.geometry.marked());
         match self.wrong {
-            Wrong::MarkDoneByAnyByte => word.iter().any(|byte| *byte != ERASED),
-            Wrong::MarkDoneOnlyByZero => word.iter().all(|byte| *byte == MARK),
-            _ => word.iter().all(|byte| *byte != ERASED),
+            Wrong::MarkDoneByAnyByte => word.iter().any(|byte| *byte != erased),
+            Wrong::MarkDoneOnlyAsWritten => word.iter().all(|byte| *byte == marked),
+            Wrong::MarkOpenByOnes => word.iter().all(|byte| *byte != 0xFF),
+            _ => word.iter().all(|byte| *byte != erased),
         }
     }
 
@@ -522,7 +598,7 @@ impl Run {
             _ => (0..pages).collect(),
         };
         self.copies(revert_copies(pages, &order), page, chunk);
-        self.write_word(1, MARK);
+        self.invalidate();
         self.erase_state(call);
         self.write_word(0, MAGICS[REVERT as usize]);
         if self.wrong == Wrong::RevertAnswered { REVERT } else { SWAP }
@@ -550,12 +626,12 @@ impl Run {
             }
             match self.wrong {
                 Wrong::CopiesBeforeMarks => unmarked.push(copy.step),
-                _ => self.write_word(2 + copy.step, MARK),
+                _ => self.write_mark(copy.step),
             }
         }
         // the end's bytes and the count are right: only what a cut leaves tells
         for step in unmarked {
-            self.write_word(2 + step, MARK);
+            self.write_mark(step);
         }
     }
 
@@ -573,7 +649,7 @@ impl Run {
             return NO_STATE;
         }
         if self.valid() || self.wrong == Wrong::InvalidateAlways {
-            self.write_word(1, MARK);
+            self.invalidate();
         }
         self.erase_state(call);
         self.write_word(0, magic);
@@ -589,8 +665,9 @@ impl Run {
         while !data.is_empty() {
             let sector = at / sector_size;
             let piece = data.len().min((sector + 1) * sector_size - at);
+            let erased = self.geometry.erased();
             let blank =
-                self.dfu[sector * sector_size..(sector + 1) * sector_size].iter().all(|x| *x == ERASED);
+                self.dfu[sector * sector_size..(sector + 1) * sector_size].iter().all(|x| *x == erased);
             if self.wrong == Wrong::ErasedSectorNotErased && blank {
                 memory = sector as u32;
             }
@@ -642,7 +719,7 @@ mod tests {
 
     /// Two pages of one byte, steps 0, 2 and 3 marked and step 1 not: done marks beyond a gap.
     fn beyond_a_gap(wrong: Wrong) -> (u32, Bench) {
-        let geometry = Geometry { ea: 1, wa: 1, ed: 1, wd: 1, es: 1, ws: 1, b: 1 };
+        let geometry = Geometry { ea: 1, wa: 1, ed: 1, wd: 1, es: 1, ws: 1, b: 1, ev: ONES };
         let call = Call { kind: Kind::PrepareBoot, geometry, budget: 100, offset: 0, data: &[] };
         let mut state = vec![0xFF; 11];
         state[..6].copy_from_slice(&[0xF0, 0xFF, 0x00, 0xFF, 0x00, 0x00]);
@@ -656,6 +733,30 @@ mod tests {
         let (operations, left) = beyond_a_gap(Wrong::Nothing);
         assert_eq!(operations, 3);
         assert_eq!((left.active, left.dfu), (vec![20, 10], vec![20, 10, 11]));
+    }
+
+    /// The same state area at both values, FF and 00 exchanged at 0: the same operations and images.
+    #[test]
+    fn the_erase_value_turns_the_state_area_over() {
+        let boot = |ev: u32, budget| {
+            let geometry = Geometry { ea: 1, wa: 1, ed: 1, wd: 1, es: 7, ws: 1, b: 1, ev };
+            let call = Call { kind: Kind::PrepareBoot, geometry, budget, offset: 0, data: &[] };
+            let e = ev as u8;
+            let mut bench = Bench { active: vec![1], dfu: vec![2, 3], state: vec![e; 7], ..Bench::default() };
+            bench.state[0] = 0xF0;
+            let answer = Model::RIGHT.answer(&call, bench.lend());
+            (answer, bench)
+        };
+        for budget in 0..8 {
+            let (word, ones) = boot(ONES, budget);
+            let (other, zeros) = boot(ZEROS, budget);
+            let turned = |byte: &u8| if matches!(byte, 0x00 | 0xFF) { !byte } else { *byte };
+            assert_eq!(word, other);
+            for (one, zero) in [(ones.active, zeros.active), (ones.dfu, zeros.dfu), (ones.state, zeros.state)]
+            {
+                assert_eq!(one.iter().map(turned).collect::<Vec<u8>>(), zero);
+            }
+        }
     }
 
     /// A counter goes on with steps 2 and 3, and the page that DFU kept is lost.

@@ -1,7 +1,7 @@
 //! Document 01, "When a call says no": one function a row, rows in the paper's order. Whole numbers are u128
 //! here, so no sum wraps.
 
-use call::{Call, Family, Geometry, Kind};
+use call::{Call, ERASE_VALUES, Family, Geometry, Kind};
 
 /// The lengths of what is lent, and whether the state area reads Swap.
 #[derive(Clone, Copy, Debug)]
@@ -49,6 +49,7 @@ struct Facts {
     es: u128,
     ws: u128,
     b: u128,
+    ev: u32,
     la: u128,
     ld: u128,
     ls: u128,
@@ -64,6 +65,7 @@ impl Facts {
             es: g.es.into(),
             ws: g.ws.into(),
             b: g.b.into(),
+            ev: g.ev,
             la: l.active as u128,
             ld: l.dfu as u128,
             ls: l.state as u128,
@@ -93,7 +95,7 @@ fn uneven(whole: u128, part: u128) -> bool {
     !whole.is_multiple_of(part)
 }
 
-/// A number that the call reads is 0 or too large, or a lent area too long.
+/// A number that the call reads is 0 or too large, the erase value is neither 255 nor 0, or a lent area is too long.
 fn row_1(f: &Facts, family: Family) -> bool {
     let (numbers, areas): (&[u128], &[u128]) = match family {
         Family::Boot => (&[f.ea, f.wa, f.ed, f.wd, f.es, f.ws, f.b], &[f.la, f.ld, f.ls]),
@@ -101,7 +103,9 @@ fn row_1(f: &Facts, family: Family) -> bool {
         Family::State => (&[f.es, f.ws], &[f.ls]),
         Family::Bytes => (&[], &[]),
     };
-    numbers.iter().any(|n| *n == 0 || *n > LARGEST_NUMBER) || areas.iter().any(|l| *l > LONGEST_AREA)
+    numbers.iter().any(|n| *n == 0 || *n > LARGEST_NUMBER)
+        || !ERASE_VALUES.contains(&f.ev)
+        || areas.iter().any(|l| *l > LONGEST_AREA)
 }
 
 /// Pages, chunks and write units don't fit into one another.
@@ -163,7 +167,7 @@ fn row_6(f: &Facts, call: &Call, out: usize) -> bool {
 mod tests {
     use super::*;
 
-    const SHEET: Geometry = Geometry { ea: 4, wa: 2, ed: 4, wd: 2, es: 16, ws: 1, b: 2 };
+    const SHEET: Geometry = Geometry { ea: 4, wa: 2, ed: 4, wd: 2, es: 16, ws: 1, b: 2, ev: 255 };
     const LENGTHS: Lengths = Lengths { active: 12, dfu: 16, state: 16, out: 0 };
 
     fn boot(g: Geometry, l: Lengths) -> u8 {
@@ -182,6 +186,23 @@ mod tests {
         assert_eq!(boot(Geometry { es: 2, ..SHEET }, Lengths { state: 2, ..empty }), 4);
         assert_eq!(boot(SHEET, Lengths { active: 16_777_216, ..LENGTHS }), 3);
         assert_eq!(boot(SHEET, Lengths { active: 16_777_217, ..LENGTHS }), 1);
+    }
+
+    /// 0 is no bad number here, and an erase value beside bad sizes is still refusal 1.
+    #[test]
+    fn the_erase_value() {
+        for (ev, number) in
+            [(255, 0), (0, 0), (1, 1), (254, 1), (256, 1), (511, 1), (65_536, 1), (u32::MAX, 1)]
+        {
+            assert_eq!(boot(Geometry { ev, ..SHEET }, LENGTHS), number);
+            for kind in Kind::ALL {
+                let call = Call { kind, geometry: Geometry { ev, ..SHEET }, budget: 0, offset: 0, data: &[] };
+                let number = if kind == Kind::StateFrom { 0 } else { number };
+                assert_eq!(refusal(&call, &LENGTHS, || false), number);
+            }
+        }
+        assert_eq!(boot(Geometry { ev: 0, b: 3, ..SHEET }, LENGTHS), 2);
+        assert_eq!(boot(Geometry { ev: 254, b: 3, ..SHEET }, LENGTHS), 1);
     }
 
     #[test]

@@ -2,6 +2,9 @@
 //!
 //! The text itself comes in through the build script. Beside it stand the altered flash of document 01
 //! (`mem_flash`) and the table of sizes for which the text is instantiated (`sizes`).
+//!
+//! This folder is compiled as two packages: `original`, for flash that erases to FF, and `original_zero`, with the
+//! text's own switch `flash-erase-zero` on. Both are asked through `call::Original`.
 // the text is taken as it is
 #![allow(dead_code, unused_imports, unused_macros, clippy::all)]
 
@@ -15,7 +18,10 @@ pub mod crate_mem_flash {
 pub mod mem_flash;
 pub mod sizes;
 
-pub use sizes::{Original, TABLE};
+pub use sizes::TABLE;
+
+/// The erase value that the text was compiled for, as a number of the geometry.
+pub const ERASE_VALUE: u32 = STATE_ERASE_VALUE as u32;
 
 /// The folder whose text was compiled.
 pub const SOURCE: &str = env!("EMBASSY_BOOT_SRC_FOUND");
@@ -29,7 +35,7 @@ mod tests {
     #[test]
     fn the_magics_are_the_paper_s() {
         assert_eq!([BOOT_MAGIC, SWAP_MAGIC, REVERT_MAGIC, DFU_DETACH_MAGIC], [0xD0, 0xF0, 0xC0, 0xE0]);
-        assert_eq!(STATE_ERASE_VALUE, 0xFF);
+        assert_eq!(STATE_ERASE_VALUE, if cfg!(feature = "flash-erase-zero") { 0x00 } else { 0xFF });
         assert!(State::from([]) == State::Swap);
     }
 

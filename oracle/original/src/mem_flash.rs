@@ -3,10 +3,23 @@
 //! A write leaves old AND new and doesn't ask for erased bytes; erases count as well as writes, each erase unit
 //! by itself, in rising order; one budget is shared by all areas. An operation wanted when the budget is used up is an error and changes nothing. The
 //! range assertions stay. The area is a lent slice, so that only erase and write size are constants.
+//!
+//! Erase and write follow the erase value that the text was compiled for: at 0 a write leaves old OR new.
 
 use std::cell::Cell;
 
 use embedded_storage::nor_flash::{ErrorType, NorFlash, NorFlashError, NorFlashErrorKind, ReadNorFlash};
+
+use crate::STATE_ERASE_VALUE;
+
+/// What a write leaves of a byte: bits only go away from the erase value.
+#[inline(always)]
+pub fn written(old: u8, new: u8) -> u8 {
+    match STATE_ERASE_VALUE {
+        0x00 => old | new,
+        _ => old & new,
+    }
+}
 
 /// What the flash does with operations.
 #[derive(Clone, Copy, PartialEq, Eq, Debug)]
@@ -127,7 +140,7 @@ impl<const ERASE: usize, const WRITE: usize> NorFlash for MemFlash<'_, ERASE, WR
         assert!(at + bytes.len() <= self.mem.len(), "write past the end");
         self.supply.take(Operation::Write)?;
         for (old, new) in self.mem[at..at + bytes.len()].iter_mut().zip(bytes) {
-            *old &= *new;
+            *old = written(*old, *new);
         }
         Ok(())
     }
@@ -141,7 +154,7 @@ impl<const ERASE: usize, const WRITE: usize> NorFlash for MemFlash<'_, ERASE, WR
         assert!(to.is_multiple_of(ERASE), "erase to {to}, erase size {ERASE}");
         for unit in (from..to).step_by(ERASE) {
             self.supply.take(Operation::Erase)?;
-            self.mem[unit..unit + ERASE].fill(0xFF);
+            self.mem[unit..unit + ERASE].fill(STATE_ERASE_VALUE);
         }
         Ok(())
     }
@@ -151,28 +164,32 @@ impl<const ERASE: usize, const WRITE: usize> NorFlash for MemFlash<'_, ERASE, WR
 mod tests {
     use super::*;
 
+    const E: u8 = STATE_ERASE_VALUE;
+
     #[test]
-    fn writes_only_lower_bits_and_both_kinds_count() {
+    fn writes_only_leave_the_erase_value_and_both_kinds_count() {
         let supply = Supply::new(2);
         let mut mem = [0xF0, 0xFF, 0x0F, 0x00];
         let mut flash = MemFlash::<2, 1>::new(&mut mem, &supply);
         flash.write(0, &[0x33, 0x55]).unwrap();
         flash.erase(2, 4).unwrap();
-        assert!(flash.write(0, &[0]).is_err());
+        assert!(flash.write(0, &[!E]).is_err());
         assert!(flash.erase(0, 2).is_err());
         assert_eq!(supply.refused.get(), Some(Operation::Erase));
-        assert_eq!(mem, [0x30, 0x55, 0xFF, 0xFF]);
+        let left =
+            if cfg!(feature = "flash-erase-zero") { [0xF3, 0xFF, 0, 0] } else { [0x30, 0x55, 0xFF, 0xFF] };
+        assert_eq!(mem, left);
     }
 
     #[test]
     fn two_areas_share_one_budget() {
         let supply = Supply::new(1);
-        let (mut a, mut b) = ([0xFFu8], [0xFFu8]);
+        let (mut a, mut b) = ([E], [E]);
         let mut first = MemFlash::<1, 1>::new(&mut a, &supply);
         let mut second = MemFlash::<1, 1>::new(&mut b, &supply);
         first.write(0, &[1]).unwrap();
         assert!(second.write(0, &[1]).is_err());
-        assert_eq!((a, b), ([1], [0xFF]));
+        assert_eq!((a, b), ([1], [E]));
     }
 
     #[test]
@@ -186,8 +203,8 @@ mod tests {
     #[test]
     fn each_unit_counts_in_rising_order() {
         let supply = Supply::new(2);
-        let mut mem = [0; 6];
+        let mut mem = [!E; 6];
         assert!(MemFlash::<2, 1>::new(&mut mem, &supply).erase(0, 6).is_err());
-        assert_eq!(mem, [0xFF, 0xFF, 0xFF, 0xFF, 0, 0]);
+        assert_eq!(mem, [E, E, E, E, !E, !E]);
     }
 }

@@ -4,24 +4,16 @@
 //! Only admitted inputs may be asked here (no refusal of document 01 but 5); on others the text panics or
 //! does what 01 refuses.
 
-use call::{Answers, BAD_STATE, CUT, Call, DONE, Kind, Lent, NO_SECTOR, NO_STATE, pack};
+use call::{Answers, BAD_STATE, CUT, Call, DONE, Kind, Lent, NO_SECTOR, NO_STATE, Original, pack};
 use embedded_storage::nor_flash::NorFlashErrorKind;
 
 use crate::mem_flash::{MemFlash, Mode, Operation, Supply};
 use crate::{
-    BlockingFirmwareState, BlockingFirmwareUpdater, BootError, BootLoader, BootLoaderConfig,
+    BlockingFirmwareState, BlockingFirmwareUpdater, BootError, BootLoader, BootLoaderConfig, ERASE_VALUE,
     FirmwareUpdaterConfig, FirmwareUpdaterError, State,
 };
 
 /// The text for one row of sizes.
-pub trait Original: Answers + Sync {
-    /// Ea, Wa, Ed, Wd, Es, Ws
-    fn numbers(&self) -> [u32; 6];
-
-    /// Updater calls in a row on one updater, whose memory starts as `lent.last`; one result for each.
-    fn chain(&self, calls: &[Call], lent: Lent) -> Vec<u64>;
-}
-
 pub struct Sizes<
     const EA: usize,
     const WA: usize,
@@ -39,6 +31,10 @@ impl<const EA: usize, const WA: usize, const ED: usize, const WD: usize, const E
 {
     fn numbers(&self) -> [u32; 6] {
         [EA, WA, ED, WD, ES, WS].map(|size| size as u32)
+    }
+
+    fn erase_value(&self) -> u32 {
+        ERASE_VALUE
     }
 
     fn chain(&self, calls: &[Call], lent: Lent) -> Vec<u64> {
@@ -297,33 +293,33 @@ mod tests {
     use super::*;
     use call::{Bench, Geometry};
 
-    const SHEET: Geometry = Geometry { ea: 4, wa: 2, ed: 4, wd: 2, es: 16, ws: 1, b: 2 };
+    const E: u8 = ERASE_VALUE as u8;
+    const SHEET: Geometry = Geometry { ea: 4, wa: 2, ed: 4, wd: 2, es: 16, ws: 1, b: 2, ev: ERASE_VALUE };
     type Sheet = Sizes<4, 2, 4, 2, 16, 1>;
 
     #[test]
     fn the_memory_goes_in_and_comes_out() {
         for last in [NO_SECTOR, 0, 1, 3, 4, 1000, NO_SECTOR - 1] {
-            let mut bench = Bench { dfu: vec![0; 16], state: vec![0xFF; 16], last, ..Bench::default() };
+            let mut bench = Bench { dfu: vec![!E; 16], state: vec![E; 16], last, ..Bench::default() };
             let call =
                 Call { kind: Kind::WriteFirmware, geometry: SHEET, budget: 0, offset: 0, data: &[1, 2] };
             let answer = Sheet {}.answer(&call, bench.lend());
             assert_eq!(answer, pack(CUT, NO_STATE, 0));
-            assert_eq!((bench.last, bench.dfu), (last, vec![0; 16]));
+            assert_eq!((bench.last, bench.dfu), (last, vec![!E; 16]));
         }
     }
 
     #[test]
     fn the_sheet_writes_firmware() {
-        let mut bench =
-            Bench { dfu: vec![0; 16], state: vec![0xFF; 16], last: NO_SECTOR, ..Bench::default() };
+        let mut bench = Bench { dfu: vec![!E; 16], state: vec![E; 16], last: NO_SECTOR, ..Bench::default() };
         let mut write = |offset, data: &[u8]| {
             let call = Call { kind: Kind::WriteFirmware, geometry: SHEET, budget: 9, offset, data };
             (Sheet {}.answer(&call, bench.lend()), bench.last, bench.dfu[..8].to_vec())
         };
         let first = write(2, &[1, 2, 3, 4]);
-        assert_eq!(first, (pack(DONE, NO_STATE, 4), 1, vec![0xFF, 0xFF, 1, 2, 3, 4, 0xFF, 0xFF]));
+        assert_eq!(first, (pack(DONE, NO_STATE, 4), 1, vec![E, E, 1, 2, 3, 4, E, E]));
         let second = write(0, &[9, 9]);
-        assert_eq!(second, (pack(DONE, NO_STATE, 2), 0, vec![9, 9, 0xFF, 0xFF, 3, 4, 0xFF, 0xFF]));
+        assert_eq!(second, (pack(DONE, NO_STATE, 2), 0, vec![9, 9, E, E, 3, 4, E, E]));
     }
 
     #[test]

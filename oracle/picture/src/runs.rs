@@ -3,8 +3,8 @@
 use call::{Answers, Bench, CUT, Call, Geometry, Kind, NO_SECTOR, number_of, operations_of};
 use library::Library;
 
-/// One erase unit to a page, two chunks to a page, one byte to a state word: document 01's sheet.
-const GEOMETRY: Geometry = Geometry { ea: 4, wa: 2, ed: 4, wd: 2, es: 16, ws: 1, b: 2 };
+/// One erase unit to a page, two chunks to a page, one byte to a state word, erased to FF: document 01's sheet.
+const GEOMETRY: Geometry = Geometry { ea: 4, wa: 2, ed: 4, wd: 2, es: 16, ws: 1, b: 2, ev: 255 };
 const LENGTHS: [usize; 3] = [12, 16, 16];
 
 /// What a page or a part of it holds.

@@ -64,7 +64,7 @@ fn compare_all(seed: u64) {
     let mut judge = Judge::default();
     let mut random = Random::new(seed);
     let sheet_holds = sheet::check(&mut judge);
-    println!("{:>9} calls  the bench sheet", judge.total());
+    println!("{:>9} calls  the bench sheet, also turned over for 0", judge.total());
     for (name, section) in SECTIONS {
         let (before, start) = (judge.total(), Instant::now());
         section(&mut judge, &mut random);

@@ -9,9 +9,9 @@ use original::mem_flash::{MemFlash, Supply};
 use original::sizes::Sizes;
 use original::{BlockingFirmwareUpdater, BootLoader, BootLoaderConfig, FirmwareUpdaterConfig, State};
 
-const ONES: Geometry = Geometry { ea: 1, wa: 1, ed: 1, wd: 1, es: 1, ws: 1, b: 1 };
+const ONES: Geometry = Geometry { ea: 1, wa: 1, ed: 1, wd: 1, es: 1, ws: 1, b: 1, ev: 255 };
 type Ones = Sizes<1, 1, 1, 1, 1, 1>;
-const SHEET: Geometry = Geometry { ea: 4, wa: 2, ed: 4, wd: 2, es: 16, ws: 1, b: 2 };
+const SHEET: Geometry = Geometry { ea: 4, wa: 2, ed: 4, wd: 2, es: 16, ws: 1, b: 2, ev: 255 };
 type Sheet = Sizes<4, 2, 4, 2, 16, 1>;
 
 /// Asks and says what came of it; the areas are shown even after a panic.

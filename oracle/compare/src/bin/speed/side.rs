@@ -1,22 +1,18 @@
-//! How fast the library is beside the original: same inputs, both optimised, median of several runs.
-//!
-//! 512 KiB active, 4 KiB pages, chunks of 256, a 4 KiB state area in 4-byte words. The original runs twice:
-//! over the crate's own test flash with the write altered, which is what the ratio is asked against, and over
-//! the leaner flash of the comparison. Then a full swap beside the plain fills and copies of the same bytes, and
-//! the time per page as the pages grow in number.
+//! The measurements at one erase value: this file is compiled for each, beside the text that `super` names.
 
 use std::hint::black_box;
-use std::time::{Duration, Instant};
 
 use call::{Answers, Bench, Call, Geometry, Kind, NO_SECTOR, operations_of};
 use compare::random::Random;
 use embedded_storage::nor_flash::{ErrorType, NorFlash, ReadNorFlash};
 use library::Library;
-use original::mem_flash::{MemFlash, Supply};
-use original::{
-    BlockingFirmwareState, BlockingFirmwareUpdater, BootLoader, BootLoaderConfig, FirmwareUpdaterConfig,
-    crate_mem_flash,
+
+use super::text::mem_flash::{MemFlash, Supply};
+use super::text::{
+    BlockingFirmwareState, BlockingFirmwareUpdater, BootLoader, BootLoaderConfig, ERASE_VALUE,
+    FirmwareUpdaterConfig, crate_mem_flash,
 };
+use crate::{RUNS, median, timed};
 
 const PAGE: usize = 4096;
 const WRITE: usize = 4;
@@ -25,7 +21,7 @@ const CHUNK: usize = 256;
 const ACTIVE: usize = 512 * 1024;
 const DFU: usize = ACTIVE + PAGE;
 const STATE: usize = 4096;
-const RUNS: usize = 21;
+const ERASED: u8 = ERASE_VALUE as u8;
 
 const GEOMETRY: Geometry = Geometry {
     ea: PAGE as u32,
@@ -35,6 +31,7 @@ const GEOMETRY: Geometry = Geometry {
     es: STATE as u32,
     ws: WORD as u32,
     b: CHUNK as u32,
+    ev: ERASE_VALUE,
 };
 
 /// The three areas as the crate's own flash, altered.
@@ -174,17 +171,6 @@ impl Task for Write<'_> {
     }
 }
 
-fn timed(body: impl FnOnce()) -> Duration {
-    let begin = Instant::now();
-    body();
-    begin.elapsed()
-}
-
-fn median(mut times: Vec<Duration>) -> f64 {
-    times.sort();
-    times[times.len() / 2].as_secs_f64() * 1e6
-}
-
 /// One line: the sides by turns, so that a slow moment of the machine meets all.
 fn measure(name: &str, flash: &mut CrateFlash, start: &Bench, task: impl Task) {
     let mut lean = start.clone();
@@ -228,42 +214,23 @@ fn measure(name: &str, flash: &mut CrateFlash, start: &Bench, task: impl Task) {
 fn plain_swap(bench: &mut Bench, page: usize) {
     for k in (0..bench.active.len() / page).rev() {
         let (from, to) = (k * page, (k + 1) * page);
-        bench.dfu[to..to + page].fill(0xFF);
+        bench.dfu[to..to + page].fill(ERASED);
         black_box(&mut bench.dfu[to..to + page]).copy_from_slice(&bench.active[from..to]);
-        bench.active[from..to].fill(0xFF);
+        bench.active[from..to].fill(ERASED);
         black_box(&mut bench.active[from..to]).copy_from_slice(&bench.dfu[from..to]);
     }
-}
-
-/// A full swap of the library beside the plain one, by turns.
-fn measure_plain(fresh: &Bench) {
-    let mut times = [Vec::new(), Vec::new()];
-    for run in 0..RUNS + 2 {
-        let (mut plain, mut bench) = (fresh.clone(), fresh.clone());
-        let first = timed(|| plain_swap(black_box(&mut plain), PAGE));
-        let second = timed(|| Boot.library(&mut bench));
-        assert!(plain.active == bench.active && plain.dfu == bench.dfu, "the plain swap leaves other images");
-        if run >= 2 {
-            times[0].push(first);
-            times[1].push(second);
-        }
-    }
-    let [plain, library] = times.map(median);
-    println!(
-        "\nfull swap, fills and copies alone {plain:.1}, library {library:.1}, ratio {:.3}",
-        library / plain
-    );
 }
 
 /// A full swap of n pages, with words of ws bytes: microseconds per page. A state unit has four words.
 fn per_page(random: &mut Random, n: usize, page: usize, ws: usize) -> f64 {
     let state = (4 * n + 4) * ws;
     let (unit, es) = (page as u32, 4 * ws as u32);
-    let geometry = Geometry { ea: unit, wa: 4, ed: unit, wd: 4, es, ws: ws as u32, b: unit / 2 };
+    let geometry =
+        Geometry { ea: unit, wa: 4, ed: unit, wd: 4, es, ws: ws as u32, b: unit / 2, ev: ERASE_VALUE };
     let mut start = Bench {
         active: random.bytes(n * page),
         dfu: random.bytes((n + 1) * page),
-        state: vec![0xFF; state],
+        state: vec![ERASED; state],
         out: Vec::new(),
         last: NO_SECTOR,
     };
@@ -281,9 +248,9 @@ fn per_page(random: &mut Random, n: usize, page: usize, ws: usize) -> f64 {
 }
 
 /// 4,096 pages fit in the longest area only if they are small.
-fn measure_growth(random: &mut Random) {
+pub fn measure_growth(random: &mut Random) {
     for (page, counts) in [(512, &[8, 32, 128, 512, 1024][..]), (128, &[8, 32, 128, 512, 1024, 4096])] {
-        println!("\nfull swap, microseconds per page of {page} bytes");
+        println!("\nfull swap, erased to {ERASED:02X}, microseconds per page of {page} bytes");
         println!("{:<10} {:>14} {:>14}", "pages", "1-byte words", "4-byte words");
         for &n in counts {
             println!("{n:<10} {:>14.3} {:>14.3}", per_page(random, n, page, 1), per_page(random, n, page, 4));
@@ -309,15 +276,15 @@ fn measure_large(random: &mut Random, small: &Bench) {
     let mut start = Bench {
         active: random.bytes(LARGE),
         dfu: random.bytes(LARGE_DFU),
-        state: vec![0xFF; LARGE_STATE],
+        state: vec![ERASED; LARGE_STATE],
         out: Vec::new(),
         last: NO_SECTOR,
     };
     start.state[..WORD].fill(0xF0);
     let mut flash = LargeFlash {
-        active: Box::new(crate_mem_flash::MemFlash::new(0xFF)),
-        dfu: Box::new(crate_mem_flash::MemFlash::new(0xFF)),
-        state: Box::new(crate_mem_flash::MemFlash::new(0xFF)),
+        active: Box::new(crate_mem_flash::MemFlash::new(ERASED)),
+        dfu: Box::new(crate_mem_flash::MemFlash::new(ERASED)),
+        state: Box::new(crate_mem_flash::MemFlash::new(ERASED)),
     };
     let mut times = [Vec::new(), Vec::new(), Vec::new(), Vec::new()];
     for run in 0..5 + 1 {
@@ -341,7 +308,7 @@ fn measure_large(random: &mut Random, small: &Bench) {
     let [original, plain, library, few] = times.map(median);
     let per_byte = (library / LARGE as f64) / (few / ACTIVE as f64);
     println!(
-        "\nfull swap of 8 MiB: original {original:.0}, fills and copies {plain:.0}, library {library:.0}"
+        "\nfull swap of 8 MiB, erased to {ERASED:02X}: original {original:.0}, fills and copies {plain:.0}, library {library:.0}"
     );
     println!(
         "to the original {:.3}, to fills and copies {:.3}, a byte beside 512 KiB {per_byte:.3}",
@@ -350,52 +317,95 @@ fn measure_large(random: &mut Random, small: &Bench) {
     );
 }
 
-fn main() {
-    let mut random = Random::new(1);
-    let mut empty = Bench {
-        active: random.bytes(ACTIVE),
-        dfu: random.bytes(DFU),
-        state: vec![0xFF; STATE],
-        out: Vec::new(),
-        last: NO_SECTOR,
-    };
-    let image = random.bytes(ACTIVE);
-    let mut fresh = empty.clone();
-    fresh.state[..WORD].fill(0xF0);
-    let mut swapped = fresh.clone();
-    let operations = operations_of(ask(Kind::PrepareBoot, &mut swapped));
-    let mut half = fresh.clone();
-    let budget = operations / 2;
-    let cut = Call { kind: Kind::PrepareBoot, geometry: GEOMETRY, budget, offset: 0, data: &[] };
-    Library.answer(&cut, half.lend());
-    empty.last = NO_SECTOR;
+/// The areas that the measurements start from.
+pub struct Start {
+    empty: Bench,
+    fresh: Bench,
+    image: Vec<u8>,
+}
 
-    let mut flash = Box::new(CrateFlash {
-        active: crate_mem_flash::MemFlash::new(0xFF),
-        dfu: crate_mem_flash::MemFlash::new(0xFF),
-        state: crate_mem_flash::MemFlash::new(0xFF),
-    });
-    println!("microseconds, median of {RUNS} runs; a ratio below 1 means that the library is faster");
-    println!(
-        "{:<34} {:>10} {:>10} {:>10} {:>10} {:>10}",
-        "", "original", "lean flash", "library", "ratio", "to lean"
-    );
-    measure("full swap", &mut flash, &fresh, Boot);
-    measure("full revert", &mut flash, &swapped, Boot);
-    measure("resume at half the swap", &mut flash, &half, Boot);
-    measure("boot with nothing to do", &mut flash, &empty, Boot);
-    measure("read_state, 20,000 calls", &mut flash, &fresh, ReadState);
-    measure("mark_updated, mark_booted, 400", &mut flash, &empty, Marks);
-    for piece in [ACTIVE, PAGE, CHUNK] {
-        let name = format!("write_firmware, 512 KiB by {piece}");
-        measure(&name, &mut flash, &empty, Write { image: &image, piece });
+impl Start {
+    pub fn new(random: &mut Random) -> Start {
+        let empty = Bench {
+            active: random.bytes(ACTIVE),
+            dfu: random.bytes(DFU),
+            state: vec![ERASED; STATE],
+            out: Vec::new(),
+            last: NO_SECTOR,
+        };
+        let image = random.bytes(ACTIVE);
+        let mut fresh = empty.clone();
+        fresh.state[..WORD].fill(0xF0);
+        Start { empty, fresh, image }
     }
-    measure_plain(&fresh);
-    measure_growth(&mut random);
-    // the crate's flash is an array, made on the stack before it is boxed
-    let large = std::thread::Builder::new().stack_size(8 * LARGE);
-    std::thread::scope(|scope| {
-        let thread = large.spawn_scoped(scope, || measure_large(&mut random, &fresh)).expect("a thread");
-        thread.join().expect("a measurement");
-    });
+
+    /// The calls, a line each.
+    pub fn measure_calls(&self) {
+        let Start { empty, fresh, image } = self;
+        let mut swapped = fresh.clone();
+        let operations = operations_of(ask(Kind::PrepareBoot, &mut swapped));
+        let mut half = fresh.clone();
+        let budget = operations / 2;
+        let cut = Call { kind: Kind::PrepareBoot, geometry: GEOMETRY, budget, offset: 0, data: &[] };
+        Library.answer(&cut, half.lend());
+
+        let mut flash = Box::new(CrateFlash {
+            active: crate_mem_flash::MemFlash::new(ERASED),
+            dfu: crate_mem_flash::MemFlash::new(ERASED),
+            state: crate_mem_flash::MemFlash::new(ERASED),
+        });
+        println!(
+            "{:<34} {:>10} {:>10} {:>10} {:>10} {:>10}",
+            format!("erased to {ERASED:02X}"),
+            "original",
+            "lean flash",
+            "library",
+            "ratio",
+            "to lean"
+        );
+        measure("full swap", &mut flash, fresh, Boot);
+        measure("full revert", &mut flash, &swapped, Boot);
+        measure("resume at half the swap", &mut flash, &half, Boot);
+        measure("boot with nothing to do", &mut flash, empty, Boot);
+        measure("read_state, 20,000 calls", &mut flash, fresh, ReadState);
+        measure("mark_updated, mark_booted, 400", &mut flash, empty, Marks);
+        for piece in [ACTIVE, PAGE, CHUNK] {
+            let name = format!("write_firmware, 512 KiB by {piece}");
+            measure(&name, &mut flash, empty, Write { image, piece });
+        }
+    }
+
+    /// A full swap of the library beside the plain one, by turns.
+    pub fn measure_plain(&self) {
+        let mut times = [Vec::new(), Vec::new()];
+        for run in 0..RUNS + 2 {
+            let (mut plain, mut bench) = (self.fresh.clone(), self.fresh.clone());
+            let first = timed(|| plain_swap(black_box(&mut plain), PAGE));
+            let second = timed(|| Boot.library(&mut bench));
+            assert!(
+                plain.active == bench.active && plain.dfu == bench.dfu,
+                "the plain swap leaves other images"
+            );
+            if run >= 2 {
+                times[0].push(first);
+                times[1].push(second);
+            }
+        }
+        let [plain, library] = times.map(median);
+        println!(
+            "full swap, erased to {ERASED:02X}: fills and copies alone {plain:.1}, library {library:.1}, ratio {:.3}",
+            library / plain
+        );
+    }
+
+    /// A full swap of 8 MiB beside that of 512 KiB.
+    pub fn measure_large(&self, random: &mut Random) {
+        // the crate's flash is an array, made on the stack before it is boxed
+        let large = std::thread::Builder::new().stack_size(8 * LARGE);
+        std::thread::scope(|scope| {
+            let body = || measure_large(random, &self.fresh);
+            let thread = large.spawn_scoped(scope, body).expect("a thread");
+            thread.join().expect("a measurement");
+        });
+    }
 }
