@@ -1,0 +1,3 @@
+pub mod Constants
+pub mod Rounds
+pub mod Partly
