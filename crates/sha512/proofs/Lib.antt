@@ -1,0 +1,5 @@
+pub mod Blocks
+pub mod Adding
+pub mod Ending
+pub mod Pieces
+pub mod Unique

@@ -1,0 +1,2 @@
+pub mod Sha512
+pub mod Streams
