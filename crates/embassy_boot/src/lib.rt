@@ -10,7 +10,7 @@ ghost use Rattle.mem_flash.specs.Run.{flash};
 ghost use Rattle.rules.specs.Calls.{report};
 ghost use Rattle.rules.specs.Boot.{prepareBoot, getState};
 ghost use Rattle.rules.specs.FirmwareState.{mark};
-ghost use Rattle.rules.specs.FirmwareUpdater.{updaterGetState, updaterMarkUpdated, updaterMarkDfu, updaterMarkBooted, prepareUpdate};
+ghost use Rattle.rules.specs.FirmwareUpdater.{updaterGetState, updaterMarkUpdated, updaterMarkDfu, updaterMarkBooted, checkAndMarkUpdated, prepareUpdate};
 ghost use Rattle.packed.specs.Packed.{packed};
 ghost use Rattle.packed.specs.Told.{stateSizes, geometry, sizes, Told, ToldRead, ToldWrite};
 
@@ -125,6 +125,26 @@ pub extern "C" fn eb_updater_mark_updated(
         (flash [] (now (dfu .entry)) (now (state .entry))) (flash [] (now (dfu .entry)) (now (state .exit))) r ⌝ }
 {
     boundary_marks::mark_updated(dfu, state, ed, wd, es, ws, ev, budget)
+}
+
+// The next boot swaps the images, if the first `length` bytes of DFU have this sum.
+#[no_mangle]
+pub extern "C" fn eb_updater_check_and_mark_updated(
+    dfu: &[u8],
+    state: &mut [u8],
+    ed: u32,
+    wd: u32,
+    es: u32,
+    ws: u32,
+    ev: u32,
+    length: u64,
+    crc: u32,
+    budget: u32,
+) -> u64
+    ensures { λ r. ⌜ Told (checkAndMarkUpdated (sizes ed wd es ws ev) length crc (flash [] (now (dfu .entry)) (now (state .entry)))) budget
+        (flash [] (now (dfu .entry)) (now (state .entry))) (flash [] (now (dfu .entry)) (now (state .exit))) r ⌝ }
+{
+    boundary_checks::check_and_mark_updated(dfu, state, ed, wd, es, ws, ev, length, crc, budget)
 }
 
 // The next boot starts the USB update. Not while a swap is pending.

@@ -6,7 +6,7 @@ ghost use mathlib.Core.List.{[]};
 ghost use lib.ListN.{length};
 ghost use Rattle.mem_flash.specs.Run.{flash};
 ghost use Rattle.rules.specs.Calls.{reported, report, Did};
-ghost use Rattle.rules.specs.FirmwareUpdater.{updaterGetState, updaterMarkUpdated, updaterMarkDfu, updaterMarkBooted, readDfu, readOut};
+ghost use Rattle.rules.specs.FirmwareUpdater.{updaterGetState, updaterMarkUpdated, updaterMarkDfu, updaterMarkBooted, checkAndMarkUpdated, readDfu, readOut};
 ghost use Rattle.firmware_updater.specs.Updated.{WroteFirmware, PreparedUpdate};
 use firmware_updater::BlockingFirmwareUpdater;
 use geometry::Offset;
@@ -44,6 +44,21 @@ pub fn mark_updated_in(
         × (now (updater .exit) ≡ now (updater .entry)) ⌝ }
 {
     (*updater).mark_updated(dfu, state, budget)
+}
+
+pub fn check_and_mark_updated_in(
+    updater: &mut BlockingFirmwareUpdater,
+    dfu: &[u8],
+    state: &mut [u8],
+    n: usize,
+    crc: u32,
+    budget: u32,
+) -> Answer
+    ensures { λ r. ⌜ Did (checkAndMarkUpdated (now (updater .entry) .sizes) n crc (flash [] (now (dfu .entry)) (now (state .entry)))) budget
+        (flash [] (now (dfu .entry)) (now (state .entry))) (flash [] (now (dfu .entry)) (now (state .exit))) r
+        × (now (updater .exit) ≡ now (updater .entry)) ⌝ }
+{
+    (*updater).check_and_mark_updated(dfu, state, n, crc, budget)
 }
 
 pub fn mark_dfu_in(

@@ -12,6 +12,7 @@ use lib.ListN.{length, take, drop}
 use borrow.Author.Tests.{eq-eqb, ne-eqb}
 use Rattle.state.specs.declared.Cell.{Cell}
 use Rattle.state.specs.declared.State.{State}
+use Rattle.state.specs.declared.State.the-variants.{Swap}
 use Rattle.state.specs.Choice.{pick}
 use Rattle.state.specs.Magic.{magic}
 use Rattle.geometry.specs.declared.Sizes.{Sizes}
@@ -19,7 +20,7 @@ use Rattle.geometry.specs.declared.Refusal.{Refusal}
 use Rattle.geometry.specs.declared.Verdict.{Verdict}
 use Rattle.geometry.specs.declared.Verdict.the-variants as verdicts
 use Rattle.geometry.specs.Geometry.{cell}
-use Rattle.geometry.specs.Refusals.{updaterRefusal, verdict, number}
+use Rattle.geometry.specs.Refusals.{updaterRefusal, checkedRefusal, verdict, number}
 use Rattle.geometry.proofs.Rows.{updater-admits}
 use Rattle.geometry.proofs.Tests.{number-some}
 use Rattle.mem_flash.specs.declared.Budget.{Budget}
@@ -33,7 +34,7 @@ use Rattle.rules.specs.declared.Answer.the-variants as answers
 use Rattle.rules.specs.declared.Sector.{Sector}
 use Rattle.rules.specs.FirmwareState.{setMagicOps}
 use Rattle.rules.specs.Calls.{Call, reported, report, Did}
-use Rattle.rules.specs.FirmwareUpdater.{pending, pastEnd, badRange, pieces, piecesOps, updaterCall, updaterMark, readDfu, readOut, writeFirmware, memory, prepareUpdate}
+use Rattle.rules.specs.FirmwareUpdater.{pending, pastEnd, badRange, pieces, piecesOps, updaterCall, updaterMark, readDfu, readOut, writeFirmware, memory, prepareUpdate, wrongSum, checkAndMarkUpdated}
 use Rattle.rules.proofs.Did.{verdict-admitted, did-refused, did-idle, did-cut, did-done}
 use Rattle.firmware_pieces.specs.Wrote.{WroteBy}
 use Rattle.firmware_pieces.proofs.Ranges.{range-in}
@@ -58,6 +59,15 @@ pub mark-did : (m : State) (swap : Bool) (z : Sizes) {k : ℕ} (d s s′ : List 
     → Did (updaterMark m swap z (flash [] d s)) k (flash [] d s) (flash [] d s′) r
 unfolding updaterMark updaterCall
 mark-did m swap z d s s′ v does e = does (updaterMark m swap z (flash [] d s)) [] d e refl refl
+
+-- and where the sum was checked before
+pub check-did : (z : Sizes) (n crc : ℕ) {k : ℕ} (d s s′ : List ℕ) (v : Verdict) {r : Answer}
+    → ((c : Call) (a d : List ℕ) → verdict v ≡ c .refusal → c .state ≡ none → c .ops ≡ setMagicOps (z .state) (magic Swap) s
+    → Did c k (flash a d s) (flash a d s′) r)
+    → verdict v ≡ checkedRefusal z (length d) (length s) (pending (z .state) s) (pastEnd (length d) 0 n) (wrongSum n crc d)
+    → Did (checkAndMarkUpdated z n crc (flash [] d s)) k (flash [] d s) (flash [] d s′) r
+unfolding checkAndMarkUpdated
+check-did z n crc d s s′ v does e = does (checkAndMarkUpdated z n crc (flash [] d s)) [] d e refl refl
 
 -- ---- read_dfu: the answer, and what the buffer `out` holds then
 

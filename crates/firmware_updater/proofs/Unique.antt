@@ -20,6 +20,8 @@ use Rattle.firmware_updater.proofs.BlockingFirmwareUpdater.mark_dfu.Kin
 use Rattle.firmware_updater.proofs.BlockingFirmwareUpdater.mark_dfu.Reads as mark-dfu
 use Rattle.firmware_updater.proofs.BlockingFirmwareUpdater.mark_booted.Kinds as mark-booted-kinds
 use Rattle.firmware_updater.proofs.BlockingFirmwareUpdater.mark_booted.Reads as mark-booted
+use Rattle.firmware_updater.proofs.BlockingFirmwareUpdater.check_and_mark_updated.Kinds as check-and-mark-updated-kinds
+use Rattle.firmware_updater.proofs.BlockingFirmwareUpdater.check_and_mark_updated.Reads as check-and-mark-updated
 use Rattle.firmware_updater.proofs.BlockingFirmwareUpdater.read_dfu.Kinds as read-dfu-kinds
 use Rattle.firmware_updater.proofs.BlockingFirmwareUpdater.read_dfu.Reads as read-dfu
 use Rattle.firmware_updater.proofs.BlockingFirmwareUpdater.write_firmware.Kinds as write-firmware-kinds
@@ -34,11 +36,16 @@ new-unique κs a x y v w p q =
 pub get-state-unique : OneResult get-state-kinds.ps get-state-kinds.r get-state.Post
 get-state-unique κs a x y v w p q = (answer-unique x y (p ∙ sym q), refl)
 
--- the three marks
+-- the marks
 pub mark-updated-unique : OneResult mark-updated-kinds.ps mark-updated-kinds.r mark-updated.Post
 mark-updated-unique κs a x y v w p q =
     let e = unique _ _ _ _ _ x y p q in
     (e .1, ap (λ (f : Flash). (tt, (tt, (f .state, (tt, tt))))) (e .0))
+
+pub check-and-mark-updated-unique : OneResult check-and-mark-updated-kinds.ps check-and-mark-updated-kinds.r check-and-mark-updated.Post
+check-and-mark-updated-unique κs a x y v w p q =
+    let e = unique _ _ _ _ _ x y p q in
+    (e .1, ap (λ (f : Flash). (tt, (tt, (f .state, (tt, (tt, (tt, tt))))))) (e .0))
 
 pub mark-dfu-unique : OneResult mark-dfu-kinds.ps mark-dfu-kinds.r mark-dfu.Post
 mark-dfu-unique κs a x y v w p q =

@@ -6,7 +6,7 @@ ghost use lib.ListN.{length};
 ghost use Rattle.mem_flash.specs.Run.{flash};
 ghost use Rattle.rules.specs.declared.Sector.{Sector};
 ghost use Rattle.rules.specs.Calls.{reported, report, Did};
-ghost use Rattle.rules.specs.FirmwareUpdater.{updaterGetState, updaterMarkUpdated, updaterMarkDfu, updaterMarkBooted, readDfu, readOut};
+ghost use Rattle.rules.specs.FirmwareUpdater.{updaterGetState, updaterMarkUpdated, updaterMarkDfu, updaterMarkBooted, checkAndMarkUpdated, readDfu, readOut};
 ghost use Rattle.firmware_updater.specs.Updated.{lastOf, WroteFirmware, PreparedUpdate};
 use geometry::Offset;
 use geometry::Refusal;
@@ -75,6 +75,24 @@ impl BlockingFirmwareUpdater {
         let z = self.sizes;
         let judged = verdicts::updater_verdict(z, dfu.len(), state.len());
         firmware_marks::mark(z.state, state, State::Swap, judged, budget)
+    }
+
+    // Marks the update if the first n bytes of DFU have this sum, a CRC-32. Not while a swap is pending. The Rust leaves it to its
+    // caller to check an image (02, No. 7).
+    pub fn check_and_mark_updated(
+        self,
+        dfu: &[u8],
+        state: &mut [u8],
+        n: usize,
+        crc: u32,
+        budget: u32,
+    ) -> Answer
+        ensures { λ r. ⌜ Did (checkAndMarkUpdated (self .sizes) n crc (flash [] (now (dfu .entry)) (now (state .entry)))) budget
+            (flash [] (now (dfu .entry)) (now (state .entry))) (flash [] (now (dfu .entry)) (now (state .exit))) r ⌝ }
+    {
+        let z = self.sizes;
+        let checked = firmware_checks::check_verdict(z, dfu, state, n, crc);
+        firmware_marks::mark(z.state, state, State::Swap, checked, budget)
     }
 
     // Not while a swap is pending.

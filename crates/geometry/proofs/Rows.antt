@@ -1,18 +1,18 @@
 -- What is left where no row holds: the facts that `Admitted` lists. `boot_verdict` and the boot loader cite them.
 -- Assumes nothing.
-use mathlib.Core.Path.{_≡_, refl, _∙_, sym}
+use mathlib.Core.Path.{_≡_, refl, ap, _∙_, sym}
 use mathlib.Core.Bool.{Bool, true, false}
-use mathlib.Core.List.{List, [], _∷_}
+use mathlib.Core.List.{List, [], _∷_, _++_, append-assoc}
 use Prim.Native.Nat.{ℕ, _%_, _≤_, _<_}
 use native.Mathlib.Omega.{arith}
 use borrow.Author.Tests.{ltb-false}
 use Rattle.geometry.specs.declared.Geometry.{Geometry}
 use Rattle.geometry.specs.declared.StateSizes.{StateSizes}
 use Rattle.geometry.specs.declared.Sizes.{Sizes}
-use Rattle.geometry.specs.declared.Refusal.the-variants.{Limit, Page, Area, StateArea, BadState, Range}
+use Rattle.geometry.specs.declared.Refusal.the-variants.{Limit, Page, Area, StateArea, BadState, Range, Checksum}
 use Rattle.geometry.specs.declared.Verdict.the-variants.{Admitted as admits, Refused}
 use Rattle.geometry.specs.Geometry.{pages}
-use Rattle.geometry.specs.Refusals.{verdict, row, firstRow, bootRefusal, stateRefusal, updaterRows, updaterRefusal, mostLength}
+use Rattle.geometry.specs.Refusals.{verdict, Row, row, firstRow, bootRefusal, stateRefusal, updaterRows, updaterRefusal, checkedRefusal, mostLength}
 use Rattle.geometry.specs.Refusals.{outside, stateNumbers, bootNumbers, updaterNumbers, uneven, unevenPage, unevenAreas, badState, bootWords, otherWords}
 use Rattle.geometry.specs.Admitted.{Number, Numbers, Admitted}
 use Rattle.geometry.proofs.Tests.{any-none, row-none, row-here, row-past, row-end, rows-early, rows-late, number-in, length-in, even}
@@ -235,3 +235,55 @@ module _ (z : Sizes) (ld ls : ℕ) (swap range : Bool) where
       pub updater-passed : range ≡ false → verdict admits ≡ updaterRefusal z ld ls swap range
       unfolding verdict
       updater-passed k = sym (late ∙ row-past _ _ h ∙ row-past _ _ k ∙ row-end)
+
+-- rows 6 and 8 of check_and_mark_updated, behind rows 1 to 5
+module _ (z : Sizes) (ld ls : ℕ) (swap range sum : Bool) where
+  abbrev asked : List Row
+  asked = updaterRows z ld ls ++ (row BadState swap ∷ [])
+
+  apart : checkedRefusal z ld ls swap range sum ≡ firstRow (asked ++ (row Range range ∷ row Checksum sum ∷ []))
+  unfolding checkedRefusal
+  apart = ap firstRow (sym (append-assoc (updaterRows z ld ls) (row BadState swap ∷ []) (row Range range ∷ row Checksum sum ∷ [])))
+
+  alone : updaterRefusal z ld ls swap false ≡ firstRow (asked ++ (row Range false ∷ []))
+  unfolding updaterRefusal
+  alone = ap firstRow (sym (append-assoc (updaterRows z ld ls) (row BadState swap ∷ []) (row Range false ∷ [])))
+
+  -- one of rows 1 to 5 holds: it is given
+  pub checked-early : (n : ℕ) → 0 < n → n ≡ updaterRefusal z ld ls swap false → n ≡ checkedRefusal z ld ls swap range sum
+  checked-early n h e =
+      let a : n ≡ firstRow (asked ++ (row Range false ∷ [])) = e ∙ alone in
+      a ∙ rows-early asked _ _ (row-past _ _ refl ∙ row-end) (omega arith) ∙ sym apart
+
+  -- none of them holds: row 6 decides, and then row 8
+  module _ (e : updaterRefusal z ld ls swap false ≡ 0) where
+    behind : checkedRefusal z ld ls swap range sum ≡ firstRow (row Range range ∷ row Checksum sum ∷ [])
+    behind = apart ∙ rows-late asked _ _ (sym alone ∙ e)
+
+    pub checked-range : range ≡ true → verdict (Refused Range) ≡ checkedRefusal z ld ls swap range sum
+    unfolding verdict
+    checked-range h = sym (behind ∙ row-here _ _ h)
+
+    module _ (h : range ≡ false) where
+      pub checked-sum : sum ≡ true → verdict (Refused Checksum) ≡ checkedRefusal z ld ls swap range sum
+      unfolding verdict
+      checked-sum k = sym (behind ∙ row-past _ _ h ∙ row-here _ _ k)
+
+      pub checked-passed : sum ≡ false → verdict admits ≡ checkedRefusal z ld ls swap range sum
+      unfolding verdict
+      checked-passed k = sym (behind ∙ row-past _ _ h ∙ row-past _ _ k ∙ row-end)
+
+-- where no row holds the sum is right, and the updater's rows 1 to 4 do not hold
+pub checked-none : (z : Sizes) (ld ls : ℕ) (swap range sum : Bool) → checkedRefusal z ld ls swap range sum ≡ 0
+    → (sum ≡ false) × (updaterRefusal z ld ls false false ≡ 0)
+unfolding checkedRefusal updaterRefusal updaterRows
+checked-none z ld ls swap range sum e =
+    let r = row-none _ _ _ e in
+    let s = row-none _ _ _ (r .1) in
+    let t = row-none _ _ _ (s .1) in
+    let u = row-none _ _ _ (t .1) in
+    let v = row-none _ _ _ (u .1) in
+    let w = row-none _ _ _ (v .1) in (
+      row-none _ _ _ (w .1) .0,
+      row-past _ _ (r .0) ∙ row-past _ _ (s .0) ∙ row-past _ _ (t .0) ∙ row-past _ _ (u .0) ∙ row-past _ _ refl ∙ row-past _ _ refl ∙ row-end,
+    )

@@ -10,7 +10,7 @@ use lib.Dec.{lit<}
 use borrow.Author.Tests.{ltb-false, eqb-false, eqb-true, not-false}
 use Rattle.state.specs.Choice.{pick}
 use Rattle.geometry.specs.declared.Refusal.{Refusal}
-use Rattle.geometry.specs.declared.Refusal.the-variants.{Limit, Page, Area, StateArea, BadState, Range}
+use Rattle.geometry.specs.declared.Refusal.the-variants.{Limit, Page, Area, StateArea, BadState, Range, Checksum}
 use Rattle.geometry.specs.Refusals.{any, number, Row, row, firstRow, mostNumber, mostLength, badNumber, tooLong, uneven}
 use Rattle.geometry.specs.Admitted.{Number}
 
@@ -44,6 +44,7 @@ number-some Area = lit< tt
 number-some StateArea = lit< tt
 number-some BadState = lit< tt
 number-some Range = lit< tt
+number-some Checksum = lit< tt
 
 -- no row holds
 pub row-none : (w : Refusal) (b : Bool) (rs : List Row) → firstRow (row w b ∷ rs) ≡ 0 → (b ≡ false) × (firstRow rs ≡ 0)

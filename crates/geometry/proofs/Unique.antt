@@ -6,7 +6,7 @@ use lib.Dec.{eqb}
 use Rattle.state.specs.Choice.{pick}
 use Rattle.state.specs.OneResult.{OneResult}
 use Rattle.geometry.specs.declared.Refusal.{Refusal}
-use Rattle.geometry.specs.declared.Refusal.the-variants.{Limit, Page, Area, StateArea, BadState, Range}
+use Rattle.geometry.specs.declared.Refusal.the-variants.{Limit, Page, Area, StateArea, BadState, Range, Checksum}
 use Rattle.geometry.specs.declared.Verdict.{Verdict}
 use Rattle.geometry.specs.declared.Verdict.the-variants.{Admitted, Refused}
 use Rattle.geometry.specs.Refusals.{number, verdict}
@@ -24,7 +24,8 @@ use Rattle.geometry.proofs.least.Reads as least
 unfoldable pub refusalOf : ℕ → Refusal
 refusalOf n =
     pick (eqb n 1) Limit
-    (pick (eqb n 2) Page (pick (eqb n 3) Area (pick (eqb n 4) StateArea (pick (eqb n 5) BadState Range))))
+    (pick (eqb n 2) Page
+    (pick (eqb n 3) Area (pick (eqb n 4) StateArea (pick (eqb n 5) BadState (pick (eqb n 6) Range Checksum)))))
 
 pub refusal-back : (r : Refusal) → refusalOf (number r) ≡ r
 unfolding refusalOf number pick
@@ -34,6 +35,7 @@ refusal-back Area = refl
 refusal-back StateArea = refl
 refusal-back BadState = refl
 refusal-back Range = refl
+refusal-back Checksum = refl
 
 verdictOf : ℕ → Verdict
 verdictOf n = pick (eqb n 0) Admitted (Refused (refusalOf n))
@@ -47,6 +49,7 @@ verdict-back (Refused Area) = refl
 verdict-back (Refused StateArea) = refl
 verdict-back (Refused BadState) = refl
 verdict-back (Refused Range) = refl
+verdict-back (Refused Checksum) = refl
 
 pub verdict-unique : (v w : Verdict) → verdict v ≡ verdict w → v ≡ w
 verdict-unique v w e = sym (verdict-back v) ∙ ap verdictOf e ∙ verdict-back w

@@ -10,7 +10,7 @@ use Rattle.geometry.specs.declared.Geometry.{Geometry}
 use Rattle.geometry.specs.declared.StateSizes.{StateSizes}
 use Rattle.geometry.specs.declared.Sizes.{Sizes}
 use Rattle.geometry.specs.declared.Refusal.{Refusal}
-use Rattle.geometry.specs.declared.Refusal.the-variants.{Limit, Page, Area, StateArea, BadState, Range}
+use Rattle.geometry.specs.declared.Refusal.the-variants.{Limit, Page, Area, StateArea, BadState, Range, Checksum}
 use Rattle.geometry.specs.declared.Verdict.{Verdict}
 use Rattle.geometry.specs.declared.Verdict.the-variants.{Admitted, Refused}
 use Rattle.geometry.specs.Geometry.{page, pages, words}
@@ -20,7 +20,7 @@ unfoldable pub any : List Bool → Bool
 any [] = false
 any (b ∷ bs) = pick b true (any bs)
 
--- the number of each refusal
+-- the number of each refusal; 7 is that of a cut
 unfoldable pub number : Refusal → ℕ
 number Limit = 1
 number Page = 2
@@ -28,6 +28,7 @@ number Area = 3
 number StateArea = 4
 number BadState = 5
 number Range = 6
+number Checksum = 8
 
 -- and of a verdict: 0 where the call is admitted
 unfoldable pub verdict : Verdict → ℕ
@@ -138,3 +139,8 @@ updaterRows z ld ls =
 unfoldable pub updaterRefusal : Sizes → ℕ → ℕ → Bool → Bool → ℕ
 updaterRefusal z ld ls swap range =
     firstRow (updaterRows z ld ls ++ (row BadState swap ∷ row Range range ∷ []))
+
+-- check_and_mark_updated (02, No. 7), with what row 8 says after them
+unfoldable pub checkedRefusal : Sizes → ℕ → ℕ → Bool → Bool → Bool → ℕ
+checkedRefusal z ld ls swap range sum =
+    firstRow (updaterRows z ld ls ++ (row BadState swap ∷ row Range range ∷ row Checksum sum ∷ []))

@@ -54,6 +54,8 @@ pub enum Refusal {
     BadState,
     // The bytes asked for are not in the area, or not on its write units.
     Range,
+    // The bytes do not have the sum that was expected.
+    Checksum,
 }
 
 pub enum Verdict {
@@ -73,6 +75,7 @@ impl Refusal {
             Refusal::StateArea => 4,
             Refusal::BadState => 5,
             Refusal::Range => 6,
+            Refusal::Checksum => 8,
         }
     }
 }

@@ -2,11 +2,11 @@
 use Prim.Native.Nat.{_≤_}
 use lib.Dec.{lit≤}
 use Rattle.geometry.specs.declared.Refusal.{Refusal}
-use Rattle.geometry.specs.declared.Refusal.the-variants.{Limit, Page, Area, StateArea, BadState, Range}
+use Rattle.geometry.specs.declared.Refusal.the-variants.{Limit, Page, Area, StateArea, BadState, Range, Checksum}
 use Rattle.geometry.specs.Refusals.{number}
 
--- a refusal's number takes three bits
-pub number-low : (w : Refusal) → number w ≤ 7
+-- a refusal's number takes four bits
+pub number-low : (w : Refusal) → number w ≤ 15
 unfolding number
 number-low Limit = lit≤ tt
 number-low Page = lit≤ tt
@@ -14,3 +14,4 @@ number-low Area = lit≤ tt
 number-low StateArea = lit≤ tt
 number-low BadState = lit≤ tt
 number-low Range = lit≤ tt
+number-low Checksum = lit≤ tt

@@ -29,7 +29,7 @@ pub fn state_number(s: State) -> u32
 
 // Three numbers in one. The two bounds are what makes it fit 64 bits.
 fn join(number: u32, state: u32, count: u32) -> u64
-    requires { ⌜ (number ≤ 7) × (state ≤ 255) ⌝ }
+    requires { ⌜ (number ≤ 15) × (state ≤ 255) ⌝ }
     ensures { λ r. ⌜ r ≡ joined number state count ⌝ }
 {
     number as u64 * 1099511627776 + state as u64 * 4294967296 + count as u64

@@ -24,7 +24,7 @@ use Rattle.rules.specs.Steps.{Copy, sourceOf, unitOf, chunkOps, fillOps, copyOp
 use Rattle.rules.specs.Calls.{Report, Call, report, left}
 use Rattle.rules.specs.Boot.{renewOps, finishOps, swapOrRevertOps, confirming, bootOpsIn, bootOps, prepareBoot, getState}
 use Rattle.rules.specs.FirmwareState.{setMagicOps, mark}
-use Rattle.rules.specs.FirmwareUpdater.{pieces, piecesOps, remembered, pending, pastEnd, badRange, updaterCall, updaterGetState, updaterMark, updaterMarkUpdated, updaterMarkDfu, updaterMarkBooted, readDfu, writeFirmware, memory, prepareUpdate}
+use Rattle.rules.specs.FirmwareUpdater.{pieces, piecesOps, remembered, pending, pastEnd, badRange, updaterCall, updaterGetState, updaterMark, updaterMarkUpdated, updaterMarkDfu, updaterMarkBooted, readDfu, writeFirmware, memory, prepareUpdate, checkAndMarkUpdated, wrongSum}
 use Rattle.power.specs.Alike.{Alike, SameAnswers, ImagesAside}
 
 -- ---- operations that are alike
@@ -275,6 +275,11 @@ module _ (f h : Flash) (e : Alike f h) where
       same-answers (prepareBoot g f) (prepareBoot g h) f h (λ i. bootRefusal g (e .active i) (e .dfu i) (length (e .state i)))
       (ap (λ (st : List ℕ). some (readState (g .state) st)) (e .state)) (alike-boot g f h e) e
 
+  same-check : (z : Sizes) (n sum : ℕ) → take n (f .dfu) ≡ take n (h .dfu)
+      → SameAnswers (checkAndMarkUpdated z n sum f) (checkAndMarkUpdated z n sum h) f h
+  unfolding checkAndMarkUpdated wrongSum
+  same-check z n sum q = same-call (checkAndMarkUpdated z n sum f) (checkAndMarkUpdated z n sum h) (rw (e .dfu, e .state, q))
+
   pub images-aside : ImagesAside f h
   unfolding updaterCall updaterGetState updaterMark updaterMarkUpdated updaterMarkDfu updaterMarkBooted readDfu writeFirmware memory prepareUpdate
   images-aside =
@@ -294,6 +299,7 @@ module _ (f h : Flash) (e : Alike f h) where
         updater-mark-booted = λ z.
             of-updater (looking z (λ _ _. false) (λ _ _. false) (λ _. none)
             (λ _ st. setMagicOps (z .state) (magic Boot) st));
+        check-and-mark-updated = same-check;
         read-dfu = λ z offset n.
             of-updater (looking z (λ _ _. false) (λ ld _. pastEnd ld offset n) (λ _. none) (λ _ _. []));
         write-firmware = λ z m offset bytes.

@@ -4,7 +4,7 @@
 use mathlib.Core.Path.{_≡_, sym, ap, ap₂, _∙_, subst}
 use mathlib.Core.Bool.{Bool, true}
 use mathlib.Core.Option.{some}
-use mathlib.Core.Logic.{_⊎_, inl, inr}
+use mathlib.Core.Logic.{_⊎_, inl, inr, _≢_}
 use mathlib.Core.List.{List, [], _∷_, _++_}
 use Prim.Native.Nat.{ℕ, zero, suc, _+_, _-_, _*_, _≤_, _<_}
 use native.Mathlib.Nat.{zero-mul, mul-le-mul-right, lt-of-not-le}
@@ -283,7 +283,7 @@ module _ (g : Geometry) (f : Flash) (s : Swapped g f) where
       ap (writtenAt cells (g .state .ws) (replicate (g .state .ws) (marked cells))) swapped-is
       ∙ void-written cells (g .state .ws) (erased cells) (2 * N) (t - 2 * N) (erased-byte cells) ∙ void-is
 
-  module _ (c : Call) (table : c .refusal < 7) (ops : c .ops ≡ setMagicOps (g .state) (magic Boot) (f .state)) where
+  module _ (c : Call) (table : c .refusal ≢ 7) (ops : c .ops ≡ setMagicOps (g .state) (magic Boot) (f .state)) where
     confirm-cut : (k : ℕ) → CutConfirmation c k → Erased (left c k f) (k - 1)
     unfolding closed confirmedPart stateUnits
     confirm-cut k h =

@@ -20,7 +20,7 @@ use Rattle.geometry.specs.declared.Geometry.{Geometry}
 use Rattle.geometry.specs.declared.Sizes.{Sizes}
 use Rattle.geometry.specs.Geometry.{cell, page, pages}
 use Rattle.geometry.specs.Refusals.{any, mostLength, uneven, outside, stateRefusal, stateNumbers, updaterNumbers, updaterRows, updaterRefusal}
-use Rattle.geometry.proofs.Rows.{admitted, updater-admits}
+use Rattle.geometry.proofs.Rows.{admitted, updater-admits, checked-none}
 use Rattle.geometry.proofs.Tests.{any-none, row-none, length-in, even-times}
 use Rattle.geometry.proofs.PageSize.{page-some}
 use Rattle.mem_flash.specs.Flash.{Area, active, dfu, state, Flash, Op, erase, write, applyAll}
@@ -32,7 +32,7 @@ use Rattle.rules.specs.StateArea.{valid, invalidateOp}
 use Rattle.rules.specs.Steps.{Copy, unitOf, copyOps, onceOps, copiesOps, swapSteps, revertSteps, pageCount, swapOps, revertOps}
 use Rattle.rules.specs.Boot.{renewOps, finishOps, swapOrRevertOps, bootOpsIn, bootOps, prepareBoot}
 use Rattle.rules.specs.FirmwareState.{setMagicOps, mark}
-use Rattle.rules.specs.FirmwareUpdater.{room, Piece, piecesFrom, pieces, remembers, piecesOps, pastEnd, badRange, updaterCall, updaterMark, updaterMarkUpdated, updaterMarkDfu, updaterMarkBooted, writeFirmware, prepareUpdate}
+use Rattle.rules.specs.FirmwareUpdater.{room, Piece, piecesFrom, pieces, remembers, piecesOps, pastEnd, badRange, updaterCall, updaterMark, updaterMarkUpdated, updaterMarkDfu, updaterMarkBooted, writeFirmware, prepareUpdate, checkAndMarkUpdated}
 use Rattle.rules.specs.Power.{stateUnits, stepCost, dearerCost}
 use Rattle.way.proofs.Costs.{step-count}
 use Rattle.way.proofs.Tables.{swap-count, revert-count, StepRow, swap-row, revert-row}
@@ -231,7 +231,7 @@ prepare-count z f r =
 -- ---- every call that does operations
 
 pub every-count : EveryCount
-unfolding mostLength mostInBoot mostInMark mostInWrite mostInPrepare mark updaterCall updaterMark updaterMarkUpdated updaterMarkDfu updaterMarkBooted
+unfolding mostLength mostInBoot mostInMark mostInWrite mostInPrepare mark updaterCall updaterMark updaterMarkUpdated updaterMarkDfu updaterMarkBooted checkAndMarkUpdated
 every-count =
     record {
       boot = boot-count;
@@ -239,6 +239,8 @@ every-count =
       updater-mark-updated = λ z f r. marks-count (z .state) (magic Swap) (f .state) (lengths z _ _ _ _ r .state);
       updater-mark-dfu = λ z f r. marks-count (z .state) (magic DfuDetach) (f .state) (lengths z _ _ _ _ r .state);
       updater-mark-booted = λ z f r. marks-count (z .state) (magic Boot) (f .state) (lengths z _ _ _ _ r .state);
+      check-and-mark-updated = λ z n sum f r.
+          marks-count (z .state) (magic Swap) (f .state) (lengths z _ _ _ _ (checked-none z _ _ _ _ _ r .1) .state);
       write-firmware = write-count;
       prepare-update = prepare-count;
       most = (omega arith, omega arith, omega arith);

@@ -1,6 +1,7 @@
 -- The laws of every call under every budget (specs/Cuts): `lawful` for any call with a number of the table, `every-call` for
 -- those of the crate. Assumes nothing.
 use mathlib.Core.Path.{_≡_, sym, ap, _∙_}
+use mathlib.Core.Logic.{_≢_}
 use Prim.Native.Nat.{ℕ, _≤_, _<_, zero-le}
 use native.Mathlib.Omega.{arith}
 use lib.ListN.{length}
@@ -9,11 +10,11 @@ use Rattle.mem_flash.proofs.After.{after-all}
 use Rattle.rules.specs.Calls.{Report, Call, report, left}
 use Rattle.rules.specs.Boot.{prepareBoot, getState}
 use Rattle.rules.specs.FirmwareState.{mark}
-use Rattle.rules.specs.FirmwareUpdater.{updaterCall, updaterGetState, updaterMark, updaterMarkUpdated, updaterMarkDfu, updaterMarkBooted, readDfu, writeFirmware, prepareUpdate}
-use Rattle.rules.proofs.Endings.{reportNumber, Ending, refused, done, cut, ending, is-cut, is-done, report-refused, report-done, report-cut, left-refused, left-admitted, boot-rows, state-rows, updater-rows}
+use Rattle.rules.specs.FirmwareUpdater.{updaterCall, updaterGetState, updaterMark, updaterMarkUpdated, updaterMarkDfu, updaterMarkBooted, readDfu, writeFirmware, prepareUpdate, checkAndMarkUpdated}
+use Rattle.rules.proofs.Endings.{reportNumber, Ending, refused, done, cut, ending, is-cut, is-done, report-refused, report-done, report-cut, left-refused, left-admitted, boot-rows, state-rows, updater-rows, checked-rows}
 use Rattle.power.specs.Cuts.{Lawful, EveryCall}
 
-module _ (c : Call) (table : c .refusal < 7) where
+module _ (c : Call) (table : c .refusal ≢ 7) where
   counts : (k : ℕ) → Ending c k → report c k .count ≤ k
   counts k (refused r) = rw (report-refused c k r) zero-le
   counts k (done z l) = rw (report-done c k z l) l
@@ -43,7 +44,7 @@ module _ (c : Call) (table : c .refusal < 7) where
 
 -- the calls of the crate: the table of each has no row 7
 pub every-call : EveryCall
-unfolding prepareBoot getState mark updaterCall updaterGetState updaterMark updaterMarkUpdated updaterMarkDfu updaterMarkBooted readDfu writeFirmware prepareUpdate
+unfolding prepareBoot getState mark updaterCall updaterGetState updaterMark updaterMarkUpdated updaterMarkDfu updaterMarkBooted checkAndMarkUpdated readDfu writeFirmware prepareUpdate
 every-call =
     record {
       boot = λ g f. lawful _ (boot-rows g _ _ _);
@@ -53,6 +54,7 @@ every-call =
       updater-mark-updated = λ z f. lawful _ (updater-rows z _ _ _ _);
       updater-mark-dfu = λ z f. lawful _ (updater-rows z _ _ _ _);
       updater-mark-booted = λ z f. lawful _ (updater-rows z _ _ _ _);
+      check-and-mark-updated = λ z n sum f. lawful _ (checked-rows z _ _ _ _ _);
       read-dfu = λ z offset n f. lawful _ (updater-rows z _ _ _ _);
       write-firmware = λ z m offset bytes f. lawful _ (updater-rows z _ _ _ _);
       prepare-update = λ z f. lawful _ (updater-rows z _ _ _ _);

@@ -1,9 +1,10 @@
 -- Document 01, "Two runs that differ only in what active and DFU hold answer alike: same numbers, counts, state bytes and updater
--- record". read_dfu's output bytes are the one exception and are not in a report. Proved in proofs/Alike. Assumes nothing.
+-- record". read_dfu's output bytes are an exception and are not in a report; check_and_mark_updated is another (02, No. 7), as it asks
+-- for the sum of DFU's first bytes: two runs with the same of these answer alike. Proved in proofs/Alike. Assumes nothing.
 use mathlib.Core.Path.{_≡_}
 use mathlib.Core.List.{List}
 use Prim.Native.Nat.{ℕ}
-use lib.ListN.{length}
+use lib.ListN.{length, take}
 use Rattle.state.specs.declared.State.{State}
 use Rattle.geometry.specs.declared.StateSizes.{StateSizes}
 use Rattle.geometry.specs.declared.Geometry.{Geometry}
@@ -13,7 +14,7 @@ use Rattle.rules.specs.declared.Sector.{Sector}
 use Rattle.rules.specs.Calls.{Call, report, left}
 use Rattle.rules.specs.Boot.{prepareBoot, getState}
 use Rattle.rules.specs.FirmwareState.{mark}
-use Rattle.rules.specs.FirmwareUpdater.{updaterGetState, updaterMarkUpdated, updaterMarkDfu, updaterMarkBooted, readDfu, writeFirmware, memory, prepareUpdate}
+use Rattle.rules.specs.FirmwareUpdater.{updaterGetState, updaterMarkUpdated, updaterMarkDfu, updaterMarkBooted, readDfu, writeFirmware, memory, prepareUpdate, checkAndMarkUpdated}
 
 -- two flashes with the same state bytes, and images as long as each other
 pub record Alike (f h : Flash) : Type 0 where
@@ -26,7 +27,7 @@ pub record SameAnswers (c d : Call) (f h : Flash) : Type 0 where
   pub answers : (k : Supply) → report c k ≡ report d k
   pub leaves : (k : Supply) → Alike (left c k f) (left d k h)
 
--- what the images hold does not matter to any call
+-- what the images hold does not matter to any call, but for the bytes whose sum is asked for
 pub record ImagesAside (f h : Flash) : Type 0 where
   pub boot : (g : Geometry) → SameAnswers (prepareBoot g f) (prepareBoot g h) f h
   pub get-state : (z : StateSizes) → SameAnswers (getState z (f .state)) (getState z (h .state)) f h
@@ -35,6 +36,8 @@ pub record ImagesAside (f h : Flash) : Type 0 where
   pub updater-mark-updated : (z : Sizes) → SameAnswers (updaterMarkUpdated z f) (updaterMarkUpdated z h) f h
   pub updater-mark-dfu : (z : Sizes) → SameAnswers (updaterMarkDfu z f) (updaterMarkDfu z h) f h
   pub updater-mark-booted : (z : Sizes) → SameAnswers (updaterMarkBooted z f) (updaterMarkBooted z h) f h
+  pub check-and-mark-updated : (z : Sizes) (n sum : ℕ) → take n (f .dfu) ≡ take n (h .dfu)
+      → SameAnswers (checkAndMarkUpdated z n sum f) (checkAndMarkUpdated z n sum h) f h
   pub read-dfu : (z : Sizes) (offset n : ℕ) → SameAnswers (readDfu z offset n f) (readDfu z offset n h) f h
   pub write-firmware : (z : Sizes) (m : Sector) (offset : ℕ) (bytes : List ℕ)
       → SameAnswers (writeFirmware z m offset bytes f) (writeFirmware z m offset bytes h) f h

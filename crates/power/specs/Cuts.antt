@@ -15,7 +15,7 @@ use Rattle.rules.specs.declared.Sector.{Sector}
 use Rattle.rules.specs.Calls.{Call, report, left}
 use Rattle.rules.specs.Boot.{prepareBoot, getState}
 use Rattle.rules.specs.FirmwareState.{mark}
-use Rattle.rules.specs.FirmwareUpdater.{updaterGetState, updaterMarkUpdated, updaterMarkDfu, updaterMarkBooted, readDfu, writeFirmware, prepareUpdate}
+use Rattle.rules.specs.FirmwareUpdater.{updaterGetState, updaterMarkUpdated, updaterMarkDfu, updaterMarkBooted, readDfu, writeFirmware, prepareUpdate, checkAndMarkUpdated}
 
 -- one call
 pub record Lawful (c : Call) : Type 0 where
@@ -44,6 +44,7 @@ pub record EveryCall : Type 0 where
   pub updater-mark-updated : (z : Sizes) (f : Flash) → Lawful (updaterMarkUpdated z f)
   pub updater-mark-dfu : (z : Sizes) (f : Flash) → Lawful (updaterMarkDfu z f)
   pub updater-mark-booted : (z : Sizes) (f : Flash) → Lawful (updaterMarkBooted z f)
+  pub check-and-mark-updated : (z : Sizes) (n sum : ℕ) (f : Flash) → Lawful (checkAndMarkUpdated z n sum f)
   pub read-dfu : (z : Sizes) (offset n : ℕ) (f : Flash) → Lawful (readDfu z offset n f)
   pub write-firmware : (z : Sizes) (m : Sector) (offset : ℕ) (bytes : List ℕ) (f : Flash)
       → Lawful (writeFirmware z m offset bytes f)
@@ -75,6 +76,7 @@ pub record EveryCount : Type 0 where
   pub updater-mark-updated : (z : Sizes) (f : Flash) → AtMost mostInMark (updaterMarkUpdated z f)
   pub updater-mark-dfu : (z : Sizes) (f : Flash) → AtMost mostInMark (updaterMarkDfu z f)
   pub updater-mark-booted : (z : Sizes) (f : Flash) → AtMost mostInMark (updaterMarkBooted z f)
+  pub check-and-mark-updated : (z : Sizes) (n sum : ℕ) (f : Flash) → AtMost mostInMark (checkAndMarkUpdated z n sum f)
   pub write-firmware : (z : Sizes) (m : Sector) (offset : ℕ) (bytes : List ℕ) (f : Flash)
       → AtMost mostInWrite (writeFirmware z m offset bytes f)
   pub prepare-update : (z : Sizes) (f : Flash) → AtMost mostInPrepare (prepareUpdate z f)

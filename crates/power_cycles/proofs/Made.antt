@@ -10,7 +10,7 @@ use lib.Seq.{take-suc}
 use types.Run.{OneOf}
 use denote.Enum.Declared.{tagOf}
 use Rattle.geometry.specs.declared.Geometry.{Geometry}
-use Rattle.geometry.specs.declared.Refusal.the-variants.{Limit, Page, Area, StateArea, BadState, Range}
+use Rattle.geometry.specs.declared.Refusal.the-variants.{Limit, Page, Area, StateArea, BadState, Range, Checksum}
 use Rattle.geometry.specs.Refusals.{number}
 use Rattle.mem_flash.specs.Flash.{Flash}
 use Rattle.rules.specs.declared.Answer.{Answer}
@@ -120,6 +120,7 @@ whole (Refused Area) o e = omega arith
 whole (Refused StateArea) o e = omega arith
 whole (Refused BadState) o e = omega arith
 whole (Refused Range) o e = omega arith
+whole (Refused Checksum) o e = omega arith
 whole (CutAfter n) o e = ⊎-elim (λ x. omega (arith, x)) (λ p. ⊎-elim (λ x. omega (arith, x)) (λ x. omega (arith, x)) p) o
 
 pub cut-number : {r : Answer} {n : ℕ} → r ≡ CutAfter n → reported r .number ≡ 7

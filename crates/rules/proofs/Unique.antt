@@ -6,7 +6,7 @@ use Prim.Native.Nat.{ℕ}
 use lib.Dec.{eqb}
 use Rattle.state.specs.declared.State.{State}
 use Rattle.state.specs.Choice.{pick}
-use Rattle.geometry.specs.declared.Refusal.the-variants.{Limit, Page, Area, StateArea, BadState, Range}
+use Rattle.geometry.specs.declared.Refusal.the-variants.{Limit, Page, Area, StateArea, BadState, Range, Checksum}
 use Rattle.geometry.specs.Refusals.{number}
 use Rattle.geometry.proofs.Unique.{refusalOf}
 use Rattle.mem_flash.specs.Flash.{Flash}
@@ -32,6 +32,7 @@ back (Refused Area) = refl
 back (Refused StateArea) = refl
 back (Refused BadState) = refl
 back (Refused Range) = refl
+back (Refused Checksum) = refl
 back (Cut n) = refl
 
 -- so two answers that tell the same are the same

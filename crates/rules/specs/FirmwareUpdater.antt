@@ -1,5 +1,5 @@
 -- The updater's calls: document 01, "Steps", and rows 5 and 6 of "When a call says no". Assumes nothing.
-use mathlib.Core.Bool.{Bool, true, false}
+use mathlib.Core.Bool.{Bool, true, false, not}
 use mathlib.Core.Option.{Option, none, some}
 use mathlib.Core.List.{List, [], _∷_, _++_}
 use Prim.Native.Nat.{ℕ, zero, suc, _+_, _-_, _*_, _/_, _%_}
@@ -10,10 +10,11 @@ use Rattle.state.specs.declared.State.{State}
 use Rattle.state.specs.declared.State.the-variants.{Boot, Swap, Revert, DfuDetach}
 use Rattle.state.specs.Choice.{pick}
 use Rattle.state.specs.Magic.{magic}
+use Rattle.crc32.specs.Crc.{crc}
 use Rattle.geometry.specs.declared.StateSizes.{StateSizes}
 use Rattle.geometry.specs.declared.Sizes.{Sizes}
 use Rattle.geometry.specs.Geometry.{cell}
-use Rattle.geometry.specs.Refusals.{any, uneven, updaterRefusal}
+use Rattle.geometry.specs.Refusals.{any, uneven, updaterRefusal, checkedRefusal}
 use Rattle.mem_flash.specs.Flash.{dfu, Flash, Op, erase, write, eraseOps}
 use Rattle.rules.specs.declared.Sector.{Sector}
 use Rattle.rules.specs.declared.Sector.the-variants.{None, At}
@@ -142,3 +143,23 @@ memory k z m offset bytes f =
 unfoldable pub prepareUpdate : Sizes → Flash → Call
 prepareUpdate z f =
     updaterCall z f (pending (z .state) (f .state)) false none (eraseOps (cell (z .state)) (z .ed) dfu 0 (length (f .dfu)))
+
+-- row 8: the first n bytes of DFU do not have the sum that is expected (02, No. 7)
+unfoldable pub wrongSum : ℕ → ℕ → List ℕ → Bool
+wrongSum n sum d = not (eqb (crc (take n d)) sum)
+
+-- check_and_mark_updated: mark_updated's operations, where these bytes have this sum; row 5 as in write_firmware
+unfoldable pub checkAndMarkUpdated : Sizes → ℕ → ℕ → Flash → Call
+checkAndMarkUpdated z n sum f =
+    record {
+      refusal =
+          checkedRefusal
+          z
+          (length (f .dfu))
+          (length (f .state))
+          (pending (z .state) (f .state))
+          (pastEnd (length (f .dfu)) 0 n)
+          (wrongSum n sum (f .dfu));
+      state = none;
+      ops = setMagicOps (z .state) (magic Swap) (f .state);
+    }

@@ -1,0 +1,3 @@
+pub mod Verdicts
+pub mod Checked
+pub mod Unique
