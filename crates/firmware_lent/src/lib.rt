@@ -7,6 +7,7 @@ ghost use lib.ListN.{length};
 ghost use Rattle.mem_flash.specs.Run.{flash};
 ghost use Rattle.rules.specs.Calls.{reported, report, Did};
 ghost use Rattle.rules.specs.FirmwareUpdater.{updaterGetState, updaterMarkUpdated, updaterMarkDfu, updaterMarkBooted, checkAndMarkUpdated, readDfu, readOut};
+ghost use Rattle.firmware_hash.specs.Hash.{Hashed};
 ghost use Rattle.firmware_updater.specs.Updated.{WroteFirmware, PreparedUpdate};
 use firmware_updater::BlockingFirmwareUpdater;
 use geometry::Offset;
@@ -113,4 +114,18 @@ pub fn prepare_update_in(
     let r = (*updater).prepare_update(dfu, state, budget);
     *updater = r.updater;
     r.answer
+}
+
+pub fn hash_in(
+    updater: &mut BlockingFirmwareUpdater,
+    dfu: &[u8],
+    state: &[u8],
+    len: usize,
+    chunk: usize,
+    out: &mut [u8],
+) -> Answer
+    ensures { λ r. ⌜ Hashed (now (updater .entry) .sizes) len chunk (now (out .entry)) (now (out .exit)) (flash [] (now (dfu .entry)) (now (state .entry))) r
+        × (now (updater .exit) ≡ now (updater .entry)) ⌝ }
+{
+    (*updater).hash(dfu, state, len, chunk, out)
 }

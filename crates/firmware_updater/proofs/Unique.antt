@@ -9,6 +9,7 @@ use Rattle.mem_flash.specs.Flash.{Flash}
 use Rattle.rules.specs.declared.Answer.{Answer}
 use Rattle.rules.specs.declared.Sector.{Sector}
 use Rattle.rules.proofs.Unique.{unique, answer-unique}
+use Rattle.firmware_hash.proofs.Unique.{hashed-unique}
 use Rattle.firmware_updater.specs.declared.BlockingFirmwareUpdater.{BlockingFirmwareUpdater}
 use Rattle.firmware_updater.proofs.BlockingFirmwareUpdater.new.Kinds as new-kinds
 use Rattle.firmware_updater.proofs.BlockingFirmwareUpdater.new.Reads as new
@@ -28,6 +29,8 @@ use Rattle.firmware_updater.proofs.BlockingFirmwareUpdater.write_firmwa
 use Rattle.firmware_updater.proofs.BlockingFirmwareUpdater.write_firmware.Reads as write-firmware
 use Rattle.firmware_updater.proofs.BlockingFirmwareUpdater.prepare_update.Kinds as prepare-update-kinds
 use Rattle.firmware_updater.proofs.BlockingFirmwareUpdater.prepare_update.Reads as prepare-update
+use Rattle.firmware_updater.proofs.BlockingFirmwareUpdater.hash.Kinds as hash-kinds
+use Rattle.firmware_updater.proofs.BlockingFirmwareUpdater.hash.Reads as hash
 
 pub new-unique : OneResult new-kinds.ps new-kinds.r new.Post
 new-unique κs a x y v w p q =
@@ -76,3 +79,7 @@ prepare-update-unique κs a x y v w p q =
       ap₂ (λ (u : BlockingFirmwareUpdater) (r : Answer). record { updater = u; answer = r }) (p .updater ∙ sym (q .updater)) (e .1),
       ap (λ (f : Flash). (tt, (f .dfu, (tt, (tt, tt))))) (e .0),
     )
+
+-- the answer, and what the output holds then
+pub hash-unique : OneResult hash-kinds.ps hash-kinds.r hash.Post
+hash-unique κs a x y v w p q = let e = hashed-unique p q in (e .0, ap (λ (out : List ℕ). (tt, (tt, (tt, (tt, (tt, (out, tt))))))) (e .1))

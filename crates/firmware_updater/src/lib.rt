@@ -7,6 +7,7 @@ ghost use Rattle.mem_flash.specs.Run.{flash};
 ghost use Rattle.rules.specs.declared.Sector.{Sector};
 ghost use Rattle.rules.specs.Calls.{reported, report, Did};
 ghost use Rattle.rules.specs.FirmwareUpdater.{updaterGetState, updaterMarkUpdated, updaterMarkDfu, updaterMarkBooted, checkAndMarkUpdated, readDfu, readOut};
+ghost use Rattle.firmware_hash.specs.Hash.{Hashed};
 ghost use Rattle.firmware_updater.specs.Updated.{lastOf, WroteFirmware, PreparedUpdate};
 use geometry::Offset;
 use geometry::Refusal;
@@ -192,5 +193,12 @@ impl BlockingFirmwareUpdater {
             updater: self,
             answer: Answer::Done(budget - rest.0),
         }
+    }
+
+    // The SHA-512 of the first bytes of DFU, taken in pieces of `chunk` bytes, into 64 bytes.
+    pub fn hash(self, dfu: &[u8], state: &[u8], len: usize, chunk: usize, out: &mut [u8]) -> Answer
+        ensures { λ r. ⌜ Hashed (self .sizes) len chunk (now (out .entry)) (now (out .exit)) (flash [] (now (dfu .entry)) (now (state .entry))) r ⌝ }
+    {
+        firmware_hash::hash(self.sizes, dfu, state, len, chunk, out)
     }
 }

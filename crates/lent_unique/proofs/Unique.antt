@@ -21,6 +21,8 @@ use Rattle.rules.specs.declared.Answer.{Answer}
 use Rattle.rules.specs.Calls.{Call, reported, report, Did}
 use Rattle.rules.specs.FirmwareUpdater.{updaterGetState, updaterMarkUpdated, updaterMarkDfu, updaterMarkBooted, checkAndMarkUpdated, readDfu, readOut}
 use Rattle.rules.proofs.Unique.{unique, answer-unique}
+use Rattle.firmware_hash.specs.Hash.{Hashed}
+use Rattle.firmware_hash.proofs.Unique.{hashed-unique}
 use Rattle.firmware_updater.specs.declared.BlockingFirmwareUpdater.{BlockingFirmwareUpdater as Updater}
 use Rattle.firmware_updater.specs.Updated.{WroteFirmware, PreparedUpdate}
 use Rattle.firmware_lent.proofs.get_state_in as get-state-in
@@ -31,6 +33,7 @@ use Rattle.firmware_lent.proofs.mark_dfu_in as mark-dfu-in
 use Rattle.firmware_lent.proofs.mark_booted_in as mark-booted-in
 use Rattle.firmware_lent.proofs.write_firmware_in as write-firmware-in
 use Rattle.firmware_lent.proofs.prepare_update_in as prepare-update-in
+use Rattle.firmware_lent.proofs.hash_in as hash-in
 
 -- ---- get_state_in
 
@@ -172,3 +175,20 @@ pub prepare-update-in-unique : (κs : Lfts 3) (a : Args prepare-update-in.signat
 prepare-update-in-unique κs a x y v w p q =
     let e = unique _ _ _ _ _ x y (p .did) (q .did) in
     (e .1, ap₂ (λ (u : Updater) (f : Flash). (u, (f .dfu, (tt, (tt, tt))))) (p .updater ∙ sym (q .updater)) (e .0))
+
+-- ---- hash_in
+
+abbrev pub hash-in-says : (κs : Lfts 4) (a : Args hash-in.signature κs) → Answer → Lasts hash-in.ended κs a → Type 0
+hash-in-says κs a r v =
+    Hashed (a .0 .now .sizes) (a .1 .1 .1 .0) (a .1 .1 .1 .1 .0) (a .1 .1 .1 .1 .1 .0 .now) (v .1 .1 .1 .1 .1 .0) (flash [] (a .1 .0 .now) (a .1 .1 .0 .now)) r
+    × (v .0 ≡ a .0 .now)
+
+pub hash-in-reads : {M : Type 1} (𝓤 : URA M) (H : Heap 𝓤) (A : Atoms 𝓤) (mem : Memory → SProp 𝓤) (run : Routine → Fun 𝓤) (κs : Lfts 4) (a : Args hash-in.signature κs)
+    (r : Answer) (v : Lasts hash-in.ended κs a) → hash-in.clauses 𝓤 H A mem run κs a .ensures tt r (atExit hash-in.ended κs a v) ≡ fact 𝓤 (hash-in-says κs a r v)
+hash-in-reads 𝓤 H A mem run κs a r v = refl
+
+pub hash-in-unique : (κs : Lfts 4) (a : Args hash-in.signature κs) (x y : Answer) (v w : Lasts hash-in.ended κs a) → hash-in-says κs a x v → hash-in-says κs a y w
+    → (x ≡ y) × (v ≡ w)
+hash-in-unique κs a x y v w p q =
+    let e = hashed-unique (p .0) (q .0) in
+    (e .0, ap₂ (λ (u : Updater) (out : List ℕ). (u, (tt, (tt, (tt, (tt, (out, tt))))))) (p .1 ∙ sym (q .1)) (e .1))
