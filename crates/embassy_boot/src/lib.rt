@@ -13,6 +13,7 @@ ghost use Rattle.rules.specs.FirmwareState.{mark};
 ghost use Rattle.rules.specs.FirmwareUpdater.{updaterGetState, updaterMarkUpdated, updaterMarkDfu, updaterMarkBooted, checkAndMarkUpdated, prepareUpdate};
 ghost use Rattle.packed.specs.Packed.{packed};
 ghost use Rattle.packed.specs.Told.{stateSizes, geometry, sizes, Told, ToldRead, ToldWrite};
+ghost use Rattle.boundary_hash.specs.Told.{ToldHash};
 
 // ---- boot
 
@@ -238,6 +239,25 @@ pub extern "C" fn eb_updater_prepare_update(
         (flash [] (now (dfu .entry)) (now (state .entry))) (flash [] (now (dfu .exit)) (now (state .entry))) r ⌝ }
 {
     boundary_updater::prepare_update(dfu, state, ed, wd, es, ws, ev, budget)
+}
+
+// The SHA-512 of the first bytes of DFU, taken in pieces of `chunk` bytes, into the 64 bytes of `out`.
+#[no_mangle]
+pub extern "C" fn eb_updater_hash(
+    dfu: &[u8],
+    state: &[u8],
+    ed: u32,
+    wd: u32,
+    es: u32,
+    ws: u32,
+    ev: u32,
+    len: u64,
+    chunk: u64,
+    out: &mut [u8],
+) -> u64
+    ensures { λ r. ⌜ ToldHash (sizes ed wd es ws ev) len chunk (now (out .entry)) (now (out .exit)) (flash [] (now (dfu .entry)) (now (state .entry))) r ⌝ }
+{
+    boundary_hash::hash(dfu, state, ed, wd, es, ws, ev, len, chunk, out)
 }
 
 // ---- states
