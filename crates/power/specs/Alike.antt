@@ -1,6 +1,7 @@
 -- Document 01, "Two runs that differ only in what active and DFU hold answer alike: same numbers, counts, state bytes and updater
--- record". read_dfu's output bytes are an exception and are not in a report; check_and_mark_updated is another (02, No. 7), as it asks
--- for the sum of DFU's first bytes: two runs with the same of these answer alike. Proved in proofs/Alike. Assumes nothing.
+-- record". read_dfu's output bytes are an exception and are not in a report. 02 has two more: check_and_mark_updated (No. 7) asks for the sum
+-- of DFU's first bytes, and two runs with the same of these answer alike; and the output of hash (No. 8), which firmware_hash/specs/Hash
+-- has, is the digest of such bytes. Proved in proofs/Alike. Assumes nothing.
 use mathlib.Core.Path.{_≡_}
 use mathlib.Core.List.{List}
 use Prim.Native.Nat.{ℕ}
