@@ -216,7 +216,7 @@ impl Device {
             last: NO_SECTOR,
         };
         // an erased state area reads Boot, so a boot that isn't refused does nothing here
-        let boot = Call { kind: Kind::PrepareBoot, geometry, budget: 0, offset: 0, data: &[] };
+        let boot = Call::of(Kind::PrepareBoot, geometry);
         let refusal = number_of(reading.model().answer(&boot, areas.lend())) as u8;
         if refusal == 0 || (reading.errs(Slip::RefusedImagesFilled) && geometry.page() > 0) {
             reading.fill(&geometry, &mut areas);
@@ -251,7 +251,7 @@ impl Device {
             kind => kind,
         };
         let budget = if slip == Slip::BudgetsAddUp { budget.saturating_sub(self.spent) } else { budget };
-        let call = Call { kind, geometry: self.geometry, budget, offset: 0, data: &[] };
+        let call = Call { budget, ..Call::of(kind, self.geometry) };
         let word = self.reading.model().answer(&call, self.areas.lend());
         self.spent = self.spent.saturating_add(operations_of(word));
         word

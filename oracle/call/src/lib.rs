@@ -151,6 +151,13 @@ pub struct Call<'a> {
     pub data: &'a [u8],
 }
 
+impl Call<'static> {
+    /// A call with every other number 0 and no data.
+    pub const fn of(kind: Kind, geometry: Geometry) -> Self {
+        Call { kind, geometry, budget: 0, offset: 0, data: &[] }
+    }
+}
+
 /// "None" for the updater's memory at the boundary.
 pub const NO_SECTOR: u32 = u32::MAX;
 

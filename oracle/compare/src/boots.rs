@@ -8,7 +8,7 @@ use crate::shapes::{Shape, all_shapes, random_shape, row};
 use crate::states::{self, MAGICS, each_over, for_value};
 
 pub fn boot(geometry: Geometry) -> Call<'static> {
-    Call { kind: Kind::PrepareBoot, geometry, budget: 0, offset: 0, data: &[] }
+    Call::of(Kind::PrepareBoot, geometry)
 }
 
 /// The smallest geometries with every state area over a small alphabet, every budget; at both erase values.

@@ -48,7 +48,7 @@ fn step(judge: &mut Judge, random: &mut Random, side: &dyn Original, shape: &Sha
         1 => random.below(5) as u32,
         _ => random.below(3 * cost) as u32,
     };
-    let call = Call { kind, geometry: shape.geometry, budget, offset: (from * write) as u64, data: &data };
+    let call = Call { budget, offset: (from * write) as u64, data: &data, ..Call::of(kind, shape.geometry) };
     judge.call(Some(side), &call, bench);
     bench.clone_from(judge.expected());
 }

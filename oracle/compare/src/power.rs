@@ -148,7 +148,7 @@ pub fn images_do_not_matter(judge: &mut Judge, random: &mut Random) {
             let write = shape.geometry.wd as usize;
             let data = random.bytes(if kind == Kind::WriteFirmware { shape.ld / write * write } else { 0 });
             let budget = random.below(30) as u32;
-            let call = Call { kind, geometry: shape.geometry, budget, offset: 0, data: &data };
+            let call = Call { budget, data: &data, ..Call::of(kind, shape.geometry) };
             let one = judge.call(Some(side), &call, &first);
             let (state, last) = (judge.expected().state.clone(), judge.expected().last);
             let other = judge.call(Some(side), &call, &second);

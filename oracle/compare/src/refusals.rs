@@ -167,7 +167,8 @@ impl Table {
         bench.out.resize(input.out, 0x77);
         bench.last = 1;
         self.data.resize(input.data, 0x0F);
-        let call = Call { kind, geometry: input.geometry(), budget, offset: input.offset, data: &self.data };
+        let call =
+            Call { budget, offset: input.offset, data: &self.data, ..Call::of(kind, input.geometry()) };
         (call, bench)
     }
 

@@ -213,7 +213,7 @@ fn other(random: &mut Random, side: &dyn Original, shape: &Shape, kind: Kind) ->
         _ => 0,
     };
     let geometry = if kind.family() == Bytes { Geometry::default() } else { shape.geometry };
-    record(side, &Call { kind, geometry, budget, offset: offset as u64, data: &data }, &bench)
+    record(side, &Call { budget, offset: offset as u64, data: &data, ..Call::of(kind, geometry) }, &bench)
 }
 
 /// A cursor over the file, as a program without allocation would read it.
@@ -282,7 +282,7 @@ fn replay_one(i: usize, mut reader: Reader) -> bool {
         last: last_after,
     };
     assert!(reader.0.is_empty(), "bytes at the end of record {i}");
-    let found = Library.answer(&Call { kind, geometry, budget, offset, data }, bench.lend());
+    let found = Library.answer(&Call { budget, offset, data, ..Call::of(kind, geometry) }, bench.lend());
     let same = found == word && bench == after;
     if !same {
         println!("record {i} ({}): expected {}, found {}", kind.name(), Word(word), Word(found));

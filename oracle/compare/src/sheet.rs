@@ -54,7 +54,7 @@ impl<'a> Sheet<'a> {
     }
 
     fn run(&mut self, name: &str, kind: Kind, budget: u32, word: u64) -> &mut Self {
-        let call = Call { kind, geometry: self.geometry, budget, offset: 0, data: &[] };
+        let call = Call { budget, ..Call::of(kind, self.geometry) };
         let found = self.judge.call(self.side, &call, &self.bench);
         self.bench.clone_from(self.judge.expected());
         self.check(name, found == word);
@@ -202,7 +202,7 @@ fn writes(On { judge, ev }: On) -> usize {
     let mut failed = 0;
     let mut write = |offset: u64, data: &[u8], word: u64, last: u32, start: &[u8]| {
         let geometry = geometry_of(side, 2);
-        let call = Call { kind: Kind::WriteFirmware, geometry, budget: 99, offset, data };
+        let call = Call { budget: 99, offset, data, ..Call::of(Kind::WriteFirmware, geometry) };
         let found = judge.call(Some(side), &call, &bench);
         bench.clone_from(judge.expected());
         if found != word || bench.last != last || bench.dfu[..8] != for_value(ev, start) {

@@ -22,7 +22,7 @@ pub const PLAIN: [Kind; 10] = [
 ];
 
 fn plain(kind: Kind, geometry: Geometry) -> Call<'static> {
-    Call { kind, geometry, budget: 0, offset: 0, data: &[] }
+    Call::of(kind, geometry)
 }
 
 /// A shape of this row for the updater: some sectors of DFU, some words of state.
@@ -120,8 +120,7 @@ pub fn exhaustive_writes(judge: &mut Judge, random: &mut Random) {
                     for last in memories(sectors) {
                         bench.last = last;
                         let geometry = shape.geometry;
-                        let call =
-                            Call { kind: Kind::WriteFirmware, geometry, budget: 0, offset, data: &data };
+                        let call = Call { offset, data: &data, ..Call::of(Kind::WriteFirmware, geometry) };
                         judge.sweep(Some(side), &call, &bench);
                     }
                 }
@@ -144,11 +143,9 @@ pub fn random_writes(judge: &mut Judge, random: &mut Random) {
             let length = write * random.below(units - from + 1);
             let data = image(random, length, write);
             let call = Call {
-                kind: Kind::WriteFirmware,
-                geometry: shape.geometry,
-                budget: 0,
                 offset: (from * write) as u64,
                 data: &data,
+                ..Call::of(Kind::WriteFirmware, shape.geometry)
             };
             judge.sweep(Some(side), &call, &bench);
         }
@@ -184,7 +181,7 @@ pub fn rows_of_calls(judge: &mut Judge, random: &mut Random) {
                     let kind = if random.once_in(4) { *random.pick(&kinds) } else { Kind::WriteFirmware };
                     let budget = if random.once_in(2) { 1000 } else { random.below(7) as u32 };
                     let data = if kind == Kind::WriteFirmware { &data[..length] } else { &[] };
-                    Call { kind, geometry: shape.geometry, budget, offset: (from * write) as u64, data }
+                    Call { budget, offset: (from * write) as u64, data, ..Call::of(kind, shape.geometry) }
                 })
                 .collect();
             judge.chain(side, &calls, &bench);
@@ -207,15 +204,14 @@ pub fn reads(judge: &mut Judge, random: &mut Random) {
             };
             bench.out = random.bytes(length);
             let geometry = shape.geometry;
-            let call = Call { kind: Kind::ReadDfu, geometry, budget: 0, offset: offset as u64, data: &[] };
+            let call = Call { offset: offset as u64, ..Call::of(Kind::ReadDfu, geometry) };
             judge.call(Some(side), &call, &bench);
         }
         for offset in [u32::MAX, u32::MAX - 1, 1 << 31] {
             for length in [0, 1, 2] {
                 bench.out = random.bytes(length);
                 let geometry = shape.geometry;
-                let call =
-                    Call { kind: Kind::ReadDfu, geometry, budget: 0, offset: offset.into(), data: &[] };
+                let call = Call { offset: offset.into(), ..Call::of(Kind::ReadDfu, geometry) };
                 judge.call(Some(side), &call, &bench);
             }
         }
@@ -228,7 +224,7 @@ pub fn state_from(judge: &mut Judge, random: &mut Random) {
     let mut sides = ERASE_VALUES.map(|ev| row([1, 1, 1, 1, 1, 1], ev)).into_iter().cycle();
     let bench = Bench { last: NO_SECTOR, ..Bench::default() };
     let mut ask = |data: &[u8]| {
-        let call = Call { kind: Kind::StateFrom, geometry: Geometry::default(), budget: 0, offset: 0, data };
+        let call = Call { data, ..Call::of(Kind::StateFrom, Geometry::default()) };
         judge.call(sides.next(), &call, &bench);
     };
     for length in 0..=3 {
@@ -272,12 +268,8 @@ pub fn runtime_shapes(judge: &mut Judge, random: &mut Random) {
         let data = image(random, length, write);
         let offset = (from * write) as u64;
         let geometry = shape.geometry;
-        judge.sweep(
-            None,
-            &Call { kind: Kind::WriteFirmware, geometry, budget: 0, offset, data: &data },
-            &bench,
-        );
+        judge.sweep(None, &Call { offset, data: &data, ..Call::of(Kind::WriteFirmware, geometry) }, &bench);
         bench.out = random.bytes(length);
-        judge.call(None, &Call { kind: Kind::ReadDfu, geometry, budget: 0, offset, data: &[] }, &bench);
+        judge.call(None, &Call { offset, ..Call::of(Kind::ReadDfu, geometry) }, &bench);
     }
 }

@@ -720,7 +720,7 @@ mod tests {
     /// Two pages of one byte, steps 0, 2 and 3 marked and step 1 not: done marks beyond a gap.
     fn beyond_a_gap(wrong: Wrong) -> (u32, Bench) {
         let geometry = Geometry { ea: 1, wa: 1, ed: 1, wd: 1, es: 1, ws: 1, b: 1, ev: ONES };
-        let call = Call { kind: Kind::PrepareBoot, geometry, budget: 100, offset: 0, data: &[] };
+        let call = Call { budget: 100, ..Call::of(Kind::PrepareBoot, geometry) };
         let mut state = vec![0xFF; 11];
         state[..6].copy_from_slice(&[0xF0, 0xFF, 0x00, 0xFF, 0x00, 0x00]);
         let mut bench = Bench { active: vec![20, 11], dfu: vec![20, 10, 11], state, ..Bench::default() };
@@ -740,7 +740,7 @@ mod tests {
     fn the_erase_value_turns_the_state_area_over() {
         let boot = |ev: u32, budget| {
             let geometry = Geometry { ea: 1, wa: 1, ed: 1, wd: 1, es: 7, ws: 1, b: 1, ev };
-            let call = Call { kind: Kind::PrepareBoot, geometry, budget, offset: 0, data: &[] };
+            let call = Call { budget, ..Call::of(Kind::PrepareBoot, geometry) };
             let e = ev as u8;
             let mut bench = Bench { active: vec![1], dfu: vec![2, 3], state: vec![e; 7], ..Bench::default() };
             bench.state[0] = 0xF0;

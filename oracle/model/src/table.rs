@@ -171,7 +171,7 @@ mod tests {
     const LENGTHS: Lengths = Lengths { active: 12, dfu: 16, state: 16, out: 0 };
 
     fn boot(g: Geometry, l: Lengths) -> u8 {
-        let call = Call { kind: Kind::PrepareBoot, geometry: g, budget: 0, offset: 0, data: &[] };
+        let call = Call::of(Kind::PrepareBoot, g);
         refusal(&call, &l, || false)
     }
 
@@ -196,7 +196,7 @@ mod tests {
         {
             assert_eq!(boot(Geometry { ev, ..SHEET }, LENGTHS), number);
             for kind in Kind::ALL {
-                let call = Call { kind, geometry: Geometry { ev, ..SHEET }, budget: 0, offset: 0, data: &[] };
+                let call = Call::of(kind, Geometry { ev, ..SHEET });
                 let number = if kind == Kind::StateFrom { 0 } else { number };
                 assert_eq!(refusal(&call, &LENGTHS, || false), number);
             }
@@ -208,7 +208,7 @@ mod tests {
     #[test]
     fn empty_data_has_no_range() {
         let write = |offset, data: &[u8]| {
-            let call = Call { kind: Kind::WriteFirmware, geometry: SHEET, budget: 0, offset, data };
+            let call = Call { offset, data, ..Call::of(Kind::WriteFirmware, SHEET) };
             refusal(&call, &LENGTHS, || false)
         };
         assert_eq!(write(1, &[0, 0]), 6);

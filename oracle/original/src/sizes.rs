@@ -301,8 +301,7 @@ mod tests {
     fn the_memory_goes_in_and_comes_out() {
         for last in [NO_SECTOR, 0, 1, 3, 4, 1000, NO_SECTOR - 1] {
             let mut bench = Bench { dfu: vec![!E; 16], state: vec![E; 16], last, ..Bench::default() };
-            let call =
-                Call { kind: Kind::WriteFirmware, geometry: SHEET, budget: 0, offset: 0, data: &[1, 2] };
+            let call = Call { data: &[1, 2], ..Call::of(Kind::WriteFirmware, SHEET) };
             let answer = Sheet {}.answer(&call, bench.lend());
             assert_eq!(answer, pack(CUT, NO_STATE, 0));
             assert_eq!((bench.last, bench.dfu), (last, vec![!E; 16]));
@@ -313,7 +312,7 @@ mod tests {
     fn the_sheet_writes_firmware() {
         let mut bench = Bench { dfu: vec![!E; 16], state: vec![E; 16], last: NO_SECTOR, ..Bench::default() };
         let mut write = |offset, data: &[u8]| {
-            let call = Call { kind: Kind::WriteFirmware, geometry: SHEET, budget: 9, offset, data };
+            let call = Call { budget: 9, offset, data, ..Call::of(Kind::WriteFirmware, SHEET) };
             (Sheet {}.answer(&call, bench.lend()), bench.last, bench.dfu[..8].to_vec())
         };
         let first = write(2, &[1, 2, 3, 4]);

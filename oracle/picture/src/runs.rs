@@ -65,7 +65,7 @@ pub fn pages(area: Area) -> usize {
 }
 
 fn call_library(bench: &mut Bench, kind: Kind, budget: u32) -> (bool, u32) {
-    let call = Call { kind, geometry: GEOMETRY, budget, offset: 0, data: &[] };
+    let call = Call { budget, ..Call::of(kind, GEOMETRY) };
     let word = Library.answer(&call, bench.lend());
     let cut = number_of(word) == u64::from(CUT);
     assert!(cut || number_of(word) == 0, "the library refuses the picture's geometry");

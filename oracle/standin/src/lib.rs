@@ -84,7 +84,7 @@ impl Brought<'_> {
     fn answer(mut self, name: &str) -> u64 {
         let kind = *Kind::ALL.iter().find(|kind| kind.name() == name).expect("a call of this name");
         let data = if kind == Kind::StateFrom { self.bytes.lend() } else { self.data.lend() };
-        let call = Call { kind, geometry: self.sizes, budget: self.budget, offset: self.offset, data };
+        let call = Call { budget: self.budget, offset: self.offset, data, ..Call::of(kind, self.sizes) };
         let mut none = NO_SECTOR;
         let lent = Lent {
             active: self.active.lend(),

@@ -67,7 +67,7 @@ fn bench(active: &[u8], dfu: &[u8], state: &[u8]) -> Bench {
 }
 
 fn call(kind: Kind, geometry: Geometry) -> Call<'static> {
-    Call { kind, geometry, budget: 99, offset: 0, data: &[] }
+    Call { budget: 99, ..Call::of(kind, geometry) }
 }
 
 fn main() {

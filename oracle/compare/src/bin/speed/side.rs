@@ -84,7 +84,7 @@ trait Task {
 }
 
 fn ask(kind: Kind, bench: &mut Bench) -> u64 {
-    Library.answer(&Call { kind, geometry: GEOMETRY, budget: u32::MAX, offset: 0, data: &[] }, bench.lend())
+    Library.answer(&Call { budget: u32::MAX, ..Call::of(kind, GEOMETRY) }, bench.lend())
 }
 
 struct Boot;
@@ -165,7 +165,7 @@ impl Task for Write<'_> {
     fn library(&self, bench: &mut Bench) {
         for (i, data) in self.image.chunks(self.piece).enumerate() {
             let offset = (i * self.piece) as u64;
-            let call = Call { kind: Kind::WriteFirmware, geometry: GEOMETRY, budget: u32::MAX, offset, data };
+            let call = Call { budget: u32::MAX, offset, data, ..Call::of(Kind::WriteFirmware, GEOMETRY) };
             black_box(Library.answer(&call, bench.lend()));
         }
     }
@@ -235,7 +235,7 @@ fn per_page(random: &mut Random, n: usize, page: usize, ws: usize) -> f64 {
         last: NO_SECTOR,
     };
     start.state[..ws].fill(0xF0);
-    let call = Call { kind: Kind::PrepareBoot, geometry, budget: u32::MAX, offset: 0, data: &[] };
+    let call = Call { budget: u32::MAX, ..Call::of(Kind::PrepareBoot, geometry) };
     let times = (0..RUNS).map(|_| {
         let mut bench = start.clone();
         let time = timed(|| {
@@ -346,7 +346,7 @@ impl Start {
         let operations = operations_of(ask(Kind::PrepareBoot, &mut swapped));
         let mut half = fresh.clone();
         let budget = operations / 2;
-        let cut = Call { kind: Kind::PrepareBoot, geometry: GEOMETRY, budget, offset: 0, data: &[] };
+        let cut = Call { budget, ..Call::of(Kind::PrepareBoot, GEOMETRY) };
         Library.answer(&cut, half.lend());
 
         let mut flash = Box::new(CrateFlash {
