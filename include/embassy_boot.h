@@ -75,16 +75,21 @@ enum {
     EB_STATE_AREA = 4,
 
     /* A swap is pending: the state reads Swap. That is so from mark_updated on until the swapped firmware is confirmed by
-     * mark_booted or a boot has taken it back. Only the updater's mark_dfu, write_firmware and prepare_update ask. */
+     * mark_booted or a boot has taken it back. Only the updater's mark_dfu, write_firmware, prepare_update and
+     * check_and_mark_updated ask. */
     EB_BAD_STATE = 5,
 
     /* eb_updater_read_dfu: offset + out_length is above dfu_length. eb_updater_write_firmware, where data is not empty: offset or
-     * data_length is no multiple of wd, or offset + data_length is above dfu_length. No sum wraps. */
+     * data_length is no multiple of wd, or offset + data_length is above dfu_length. eb_updater_check_and_mark_updated: length is
+     * above dfu_length. No sum wraps. */
     EB_RANGE = 6,
 
     /* The budget was used up and one more operation was wanted. Precisely the operations done are in the flash, in order, and each
      * of them whole: the power failed there. */
-    EB_CUT = 7
+    EB_CUT = 7,
+
+    /* A refusal like 1 to 6, and the last of them to be asked. eb_updater_check_and_mark_updated: the bytes have another sum. */
+    EB_WRONG_SUM = 8
 };
 
 /* The state. Only a call that is done carries one, and only eb_prepare_boot, eb_read_state and the get_state calls do. */
@@ -99,7 +104,7 @@ enum {
 /* Names, for messages: those of docs/RULES.md and of the Rust wrapper. */
 static inline const char *eb_number_name(uint32_t number)
 {
-    static const char *const names[] = {"Done", "Limit", "Page", "Area", "StateArea", "BadState", "Range", "Cut"};
+    static const char *const names[] = {"Done", "Limit", "Page", "Area", "StateArea", "BadState", "Range", "Cut", "WrongSum"};
     return number < sizeof names / sizeof *names ? names[number] : "?";
 }
 static inline const char *eb_state_name(uint32_t state)
@@ -176,6 +181,13 @@ EB_RESULT uint64_t eb_updater_mark_dfu(const uint8_t *dfu, size_t dfu_length, ui
                                        uint32_t wd, uint32_t es, uint32_t ws, uint32_t ev, uint32_t budget);
 EB_RESULT uint64_t eb_updater_mark_booted(const uint8_t *dfu, size_t dfu_length, uint8_t *state, size_t state_length,
                                           uint32_t ed, uint32_t wd, uint32_t es, uint32_t ws, uint32_t ev, uint32_t budget);
+
+/* eb_updater_mark_updated, if the first length bytes of DFU have this CRC-32: the reflected one of IEEE 802.3, which zlib has too
+ * (CBF43926 for "123456789"; of no bytes it is 0). Operations are those of the mark. Also refused: 5 while a swap is pending, 6, and 8
+ * for another sum. A state that is marked already reads Swap, so a second call is refused with 5. */
+EB_RESULT uint64_t eb_updater_check_and_mark_updated(const uint8_t *dfu, size_t dfu_length, uint8_t *state, size_t state_length,
+                                                     uint32_t ed, uint32_t wd, uint32_t es, uint32_t ws, uint32_t ev,
+                                                     uint64_t length, uint32_t crc, uint32_t budget);
 
 /* Fills out with the bytes of DFU from offset on; the offset need not stand on a write unit. 0 operations. Also refused: 6. */
 EB_RESULT uint64_t eb_updater_read_dfu(const uint8_t *dfu, size_t dfu_length, const uint8_t *state, size_t state_length,
@@ -277,6 +289,13 @@ EB_RESULT static inline uint64_t eb_updater_mark_booted_with(const uint8_t *dfu,
                                                              size_t state_length, const struct eb_geometry *g, uint32_t budget)
 {
     return eb_updater_mark_booted(dfu, dfu_length, state, state_length, g->ed, g->wd, g->es, g->ws, g->ev, budget);
+}
+EB_RESULT static inline uint64_t eb_updater_check_and_mark_updated_with(const uint8_t *dfu, size_t dfu_length, uint8_t *state,
+                                                                        size_t state_length, const struct eb_geometry *g,
+                                                                        uint64_t length, uint32_t crc, uint32_t budget)
+{
+    return eb_updater_check_and_mark_updated(dfu, dfu_length, state, state_length, g->ed, g->wd, g->es, g->ws, g->ev, length, crc,
+                                             budget);
 }
 EB_RESULT static inline uint64_t eb_updater_read_dfu_with(const uint8_t *dfu, size_t dfu_length, const uint8_t *state,
                                                           size_t state_length, const struct eb_geometry *g, uint32_t offset,

@@ -82,11 +82,13 @@ pub enum Refusal {
     /// T ≥ 4N + 3, every other call T ≥ 2.
     StateArea,
     /// 5: a swap is pending, that is, the state reads [`State::Swap`]: from mark_updated on until the new firmware is confirmed or
-    /// taken back. Only the updater's mark_dfu, write_firmware and prepare_update ask.
+    /// taken back. Only the updater's mark_dfu, write_firmware, prepare_update and check_and_mark_updated ask.
     BadState,
-    /// 6: read_dfu asks for bytes past DFU's end. Or write_firmware's data, where it isn't empty, ends past DFU's end, or its offset
-    /// or length is no multiple of `wd`.
+    /// 6: read_dfu asks for bytes past DFU's end, or check_and_mark_updated for the sum of such. Or write_firmware's data, where it
+    /// isn't empty, ends past DFU's end, or its offset or length is no multiple of `wd`.
     Range,
+    /// 8, asked last: in check_and_mark_updated the bytes have another sum.
+    WrongSum,
 }
 
 /// The answer of a call.
@@ -149,7 +151,7 @@ impl From<Answer> for Result<Finished, Stopped> {
 }
 
 impl Refusal {
-    /// Its number in the table of refusals, 1 to 6.
+    /// Its number in the table of refusals, 1 to 6 and 8.
     pub const fn number(self) -> u32 {
         match self {
             Refusal::Limit => 1,
@@ -158,6 +160,7 @@ impl Refusal {
             Refusal::StateArea => 4,
             Refusal::BadState => 5,
             Refusal::Range => 6,
+            Refusal::WrongSum => 8,
         }
     }
 }
@@ -179,6 +182,7 @@ impl fmt::Display for Refusal {
             Refusal::StateArea => "the state area is no whole number of erase units, or has too few words",
             Refusal::BadState => "a swap is pending",
             Refusal::Range => "the bytes asked for aren't in DFU, or not on its write units",
+            Refusal::WrongSum => "the bytes have another sum",
         };
         write!(f, "refused with {}: {why}", self.number())
     }
@@ -266,6 +270,7 @@ fn answer(result: u64) -> Answer {
         5 => Answer::Refused(Refusal::BadState),
         6 => Answer::Refused(Refusal::Range),
         7 => Answer::Cut(count),
+        8 => Answer::Refused(Refusal::WrongSum),
         number => unreachable!("the library has no number {number}"),
     }
 }
@@ -433,6 +438,30 @@ impl FirmwareUpdater {
     /// As [`FirmwareState::mark_booted`].
     pub fn mark_booted(&self, dfu: &[u8], state: &mut [u8], budget: u32) -> Answer {
         answer(boundary::eb_updater_mark_booted(dfu, state, self.sizes, budget))
+    }
+
+    /// [`mark_updated`](Self::mark_updated), if the first `length` bytes of DFU have this CRC-32: the reflected one of IEEE 802.3, which
+    /// zlib has too; of no bytes it is 0. [Refused](Refusal::BadState) while a swap is pending, where DFU is
+    /// [shorter](Refusal::Range), and for [another sum](Refusal::WrongSum).
+    ///
+    /// ```
+    /// use embassy_boot_rattle::{Answer, ERASES_TO_ONES, FOREVER, FirmwareUpdater, Refusal, Sizes};
+    ///
+    /// let updater = FirmwareUpdater::new(Sizes { ed: 4, wd: 2, es: 16, ws: 1, ev: ERASES_TO_ONES });
+    /// let (dfu, mut state) = (*b"123456789...", [0xFF; 16]);
+    /// let other = updater.check_and_mark_updated(&dfu, &mut state, 8, 0xCBF4_3926, FOREVER);
+    /// assert_eq!(other, Answer::Refused(Refusal::WrongSum));
+    /// assert_eq!(updater.check_and_mark_updated(&dfu, &mut state, 9, 0xCBF4_3926, FOREVER), Answer::Done(3));
+    /// ```
+    pub fn check_and_mark_updated(
+        &self,
+        dfu: &[u8],
+        state: &mut [u8],
+        length: u64,
+        crc: u32,
+        budget: u32,
+    ) -> Answer {
+        answer(boundary::eb_updater_check_and_mark_updated(dfu, state, self.sizes, length, crc, budget))
     }
 
     /// Fills `out` with the bytes of DFU from an offset on. [Refused](Refusal::Range) where they run past its end; `out` is as it

@@ -23,6 +23,9 @@ macro_rules! boundary {
         $each! { eb_updater_mark_booted(dfu: &[u8; dfu_length], state: &mut [u8; state_length], Sizes { ed, wd, es, ws, ev },
             budget: u32) -> u64 }
 
+        $each! { eb_updater_check_and_mark_updated(dfu: &[u8; dfu_length], state: &mut [u8; state_length],
+            Sizes { ed, wd, es, ws, ev }, length: u64, crc: u32, budget: u32) -> u64 }
+
         $each! { eb_updater_read_dfu(dfu: &[u8; dfu_length], state: &[u8; state_length], Sizes { ed, wd, es, ws, ev },
             offset: u32, out: &mut [u8; out_length]) -> u64 }
 

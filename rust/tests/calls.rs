@@ -121,6 +121,7 @@ fn other_erase_values() {
         assert_eq!(updater.mark_updated(&x.dfu, &mut x.state, FOREVER), no);
         assert_eq!(updater.mark_dfu(&x.dfu, &mut x.state, FOREVER), no);
         assert_eq!(updater.mark_booted(&x.dfu, &mut x.state, FOREVER), no);
+        assert_eq!(updater.check_and_mark_updated(&x.dfu, &mut x.state, 99, 1, FOREVER), no);
         assert_eq!(updater.read_dfu(&x.dfu, &x.state, 0, &mut out), no);
         assert_eq!(updater.write_firmware(&mut x.dfu, &x.state, 1, &[1, 2], FOREVER), no);
         assert_eq!(updater.prepare_update(&mut x.dfu, &x.state, FOREVER), no);
@@ -253,6 +254,38 @@ fn an_update() {
     assert_eq!(updater.get_state(&dfu[..15], &state), Answer::Refused(Refusal::Area));
 }
 
+/// A sum before marking: of no bytes, of a byte, of a sector, the published one and that of all of DFU, as python3's zlib has them.
+#[test]
+fn sums() {
+    let rows = [(0, 0), (1, 0x83DC_EFB7), (4, 0x9BE3_E0A3), (9, 0xCBF4_3926), (16, 0x31C2_F5B4)];
+    let dfu = *b"123456789 beyond";
+    for (geometry, (length, crc)) in [SHEET, ZERO].into_iter().flat_map(|g| rows.map(|row| (g, row))) {
+        let updater = FirmwareUpdater::new(geometry.sizes());
+        let erased = vec![geometry.ev as u8; 16];
+        let mut state = erased.clone();
+        let mut check = |crc, budget| {
+            let answer = updater.check_and_mark_updated(&dfu, &mut state, length, crc, budget);
+            (answer, state.clone())
+        };
+        for bit in 0..32 {
+            assert_eq!(check(crc ^ 1 << bit, FOREVER), (Answer::Refused(Refusal::WrongSum), erased.clone()));
+        }
+        assert_eq!(check(crc, 0), (Answer::Cut(0), erased.clone()));
+        assert_eq!(check(crc, 1).0, Answer::Cut(1));
+        assert_eq!(check(crc, 2), (Answer::Done(2), runs(&[(1, 0xF0), (15, geometry.ev as u8)])));
+        // the state reads Swap now, and that is asked first
+        assert_eq!(check(!crc, FOREVER).0, Answer::Refused(Refusal::BadState));
+    }
+    let updater = FirmwareUpdater::new(SIZES);
+    for length in [17, 1 << 32, (1 << 32) + 9, u64::MAX] {
+        let mut state = [0xFF; 16];
+        let answer = updater.check_and_mark_updated(&dfu, &mut state, length, 0xCBF4_3926, FOREVER);
+        assert_eq!((answer, state), (Answer::Refused(Refusal::Range), [0xFF; 16]));
+    }
+    let answer = updater.check_and_mark_updated(&dfu[..15], &mut [0xFF; 16], 9, 0xCBF4_3926, FOREVER);
+    assert_eq!(answer, Answer::Refused(Refusal::Area));
+}
+
 #[test]
 fn states_of_words() {
     assert_eq!(State::from_bytes(&[0xF0, 0xF0, 0xF0, 0xFF]), State::Boot);
@@ -273,9 +306,16 @@ fn parts_of_a_geometry() {
 fn answers_as_results_and_texts() {
     let done = Result::from(Answer::Done(3));
     assert_eq!(done, Ok(Finished { state: None, operations: 3 }));
-    let refusals =
-        [Refusal::Limit, Refusal::Page, Refusal::Area, Refusal::StateArea, Refusal::BadState, Refusal::Range];
-    for (refusal, number) in refusals.into_iter().zip(1..) {
+    let refusals = [
+        (Refusal::Limit, 1),
+        (Refusal::Page, 2),
+        (Refusal::Area, 3),
+        (Refusal::StateArea, 4),
+        (Refusal::BadState, 5),
+        (Refusal::Range, 6),
+        (Refusal::WrongSum, 8),
+    ];
+    for (refusal, number) in refusals {
         let answer = Answer::Refused(refusal);
         assert_eq!(answer.result(), Err(Stopped::Refused(refusal)));
         assert_eq!(refusal.number(), number);

@@ -176,6 +176,54 @@ static void updates(void)
     CHECK(is(eb_updater_mark_updated(dfu, 16, state, 16, 3, 2, 16, 1, 255, 9), EB_PAGE, EB_NO_STATE, 0));
 }
 
+static uint64_t check_and_mark(uint64_t length, uint32_t crc, uint32_t budget)
+{
+    return eb_updater_check_and_mark_updated(dfu, 16, state, 16, 4, 2, 16, 1, 255, length, crc, budget);
+}
+
+/* A sum before marking: the published value, and those of no bytes, of a byte, of a sector and of all of DFU, as python3's zlib has
+ * them. */
+static void sums(void)
+{
+    static const struct { uint64_t length; uint32_t crc; } rows[] = {
+        {0, 0}, {1, 0x83DCEFB7}, {4, 0x9BE3E0A3}, {9, 0xCBF43926}, {16, 0x31C2F5B4},
+    };
+    uint8_t s[16];
+
+    memcpy(dfu, "123456789 beyond", 16);
+    for (size_t i = 0; i < sizeof rows / sizeof *rows; i++) {
+        memset(state, 0xFF, 16);
+        for (int bit = 0; bit < 32; bit++)
+            CHECK(is(check_and_mark(rows[i].length, rows[i].crc ^ UINT32_C(1) << bit, 9), EB_WRONG_SUM, EB_NO_STATE, 0));
+        memset(s, 0xFF, 16);
+        CHECK(!memcmp(state, s, 16));
+        CHECK(is(check_and_mark(rows[i].length, rows[i].crc, 0), EB_CUT, EB_NO_STATE, 0));
+        CHECK(!memcmp(state, s, 16));
+        CHECK(is(check_and_mark(rows[i].length, rows[i].crc, 1), EB_CUT, EB_NO_STATE, 1));
+        CHECK(is(check_and_mark(rows[i].length, rows[i].crc, 2), EB_DONE, EB_NO_STATE, 2));
+        runs(s, 1, 0xF0, 15, 0xFF, 0, 0, 0, 0);
+        CHECK(!memcmp(state, s, 16));
+    }
+
+    /* 5 before 6 before 8, and no length is cut to 32 bits */
+    CHECK(is(check_and_mark(9, 0xCBF43926, 9), EB_BAD_STATE, EB_NO_STATE, 0));
+    CHECK(is(check_and_mark(17, 0, 9), EB_BAD_STATE, EB_NO_STATE, 0));
+    memset(state, 0xFF, 16);
+    CHECK(is(check_and_mark(17, 0, 9), EB_RANGE, EB_NO_STATE, 0));
+    CHECK(is(check_and_mark((UINT64_C(1) << 32) + 9, 0xCBF43926, 9), EB_RANGE, EB_NO_STATE, 0));
+    CHECK(is(check_and_mark(UINT64_MAX, 0, 9), EB_RANGE, EB_NO_STATE, 0));
+    CHECK(is(eb_updater_check_and_mark_updated(dfu, 16, state, 16, 3, 2, 16, 1, 255, 9, 0xCBF43926, 9), EB_PAGE, EB_NO_STATE, 0));
+    CHECK(is(eb_updater_check_and_mark_updated(dfu, 15, state, 16, 4, 2, 16, 1, 255, 9, 0xCBF43926, 9), EB_AREA, EB_NO_STATE, 0));
+    memset(s, 0xFF, 16);
+    CHECK(!memcmp(state, s, 16) && !memcmp(dfu, "123456789 beyond", 16));
+
+    /* flash that erases to 00: the mark follows the erase value, the sum does not */
+    memset(state, 0, 16);
+    CHECK(is(eb_updater_check_and_mark_updated(dfu, 16, state, 16, 4, 2, 16, 1, 0, 9, 0xCBF43926, 9), EB_DONE, EB_NO_STATE, 3));
+    runs(s, 1, 0xF0, 15, 0, 0, 0, 0, 0);
+    CHECK(!memcmp(state, s, 16));
+}
+
 /* Flash that erases to 00. */
 static uint64_t boot_zero(uint32_t budget)
 {
@@ -251,6 +299,8 @@ static void with_a_record(const struct eb_geometry *g, uint32_t boots, uint32_t 
     CHECK(eb_number(eb_updater_prepare_update_with(dfu_3, 96, state_64, 64, g, 9)) == updaters);
     CHECK(eb_number(eb_updater_write_firmware_with(dfu_3, 96, state_64, 64, g, 4, out_2, 2, &last, 9)) == updaters);
     CHECK(eb_number(eb_updater_read_dfu_with(dfu_3, 96, state_64, 64, g, 4, out_2, 2)) == updaters);
+    CHECK(eb_number(eb_updater_check_and_mark_updated_with(dfu_3, 96, state_64, 64, g, 0, 0, 9)) == updaters);
+    CHECK(eb_number(eb_updater_mark_booted_with(dfu_3, 96, state_64, 64, g, 9)) == updaters);
     CHECK(eb_number(eb_updater_mark_updated_with(dfu_3, 96, state_64, 64, g, 9)) == updaters);
     CHECK(eb_number(eb_state_mark_updated_with(state_64, 64, g, 9)) == states);
     CHECK(eb_number(eb_prepare_boot_with(active_2, 64, dfu_3, 96, state_64, 64, g, EB_FOREVER)) == boots);
@@ -290,7 +340,8 @@ static void records(void)
 static void names(void)
 {
     CHECK(!strcmp(eb_number_name(EB_DONE), "Done") && !strcmp(eb_number_name(EB_STATE_AREA), "StateArea"));
-    CHECK(!strcmp(eb_number_name(EB_CUT), "Cut") && !strcmp(eb_number_name(1000), "?"));
+    CHECK(!strcmp(eb_number_name(EB_CUT), "Cut") && !strcmp(eb_number_name(EB_WRONG_SUM), "WrongSum"));
+    CHECK(!strcmp(eb_number_name(9), "?") && !strcmp(eb_number_name(1000), "?"));
     CHECK(!strcmp(eb_state_name(EB_BOOT), "Boot") && !strcmp(eb_state_name(EB_DFU_DETACH), "DfuDetach"));
     CHECK(!strcmp(eb_state_name(EB_NO_STATE), "none"));
 }
@@ -300,6 +351,7 @@ int main(void)
     boots();
     states();
     updates();
+    sums();
     zeros();
     records();
     names();

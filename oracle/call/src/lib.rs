@@ -5,7 +5,7 @@ use std::fmt;
 
 pub mod random;
 
-/// The calls of the C boundary. The numbers are those of the replay format.
+/// The calls of the C boundary. The numbers up to 13 are those of the replay format.
 #[derive(Clone, Copy, PartialEq, Eq, Debug)]
 #[repr(u32)]
 pub enum Kind {
@@ -23,6 +23,7 @@ pub enum Kind {
     WriteFirmware = 11,
     PrepareUpdate = 12,
     StateFrom = 13,
+    CheckAndMarkUpdated = 14,
 }
 
 /// Which areas and numbers a call takes.
@@ -39,7 +40,7 @@ pub enum Family {
 }
 
 impl Kind {
-    pub const ALL: [Kind; 14] = [
+    pub const ALL: [Kind; 15] = [
         Kind::PrepareBoot,
         Kind::ReadState,
         Kind::StateGetState,
@@ -54,7 +55,19 @@ impl Kind {
         Kind::WriteFirmware,
         Kind::PrepareUpdate,
         Kind::StateFrom,
+        Kind::CheckAndMarkUpdated,
     ];
+
+    /// Those that are lent an area: all but State::from.
+    pub const WITH_AREAS: [Kind; Kind::ALL.len() - 1] = {
+        let mut kinds = [Kind::PrepareBoot; Kind::ALL.len() - 1];
+        let mut i = 0;
+        while i < kinds.len() {
+            kinds[i] = Kind::ALL[if i < Kind::StateFrom as usize { i } else { i + 1 }];
+            i += 1;
+        }
+        kinds
+    };
 
     pub fn family(self) -> Family {
         match self {
@@ -85,6 +98,7 @@ impl Kind {
             Kind::WriteFirmware => "eb_updater_write_firmware",
             Kind::PrepareUpdate => "eb_updater_prepare_update",
             Kind::StateFrom => "eb_state_from",
+            Kind::CheckAndMarkUpdated => "eb_updater_check_and_mark_updated",
         }
     }
 
@@ -149,12 +163,16 @@ pub struct Call<'a> {
     pub budget: u32,
     pub offset: u64,
     pub data: &'a [u8],
+    /// how many bytes of DFU are summed
+    pub length: u64,
+    /// the sum that they are to have
+    pub crc: u32,
 }
 
 impl Call<'static> {
     /// A call with every other number 0 and no data.
     pub const fn of(kind: Kind, geometry: Geometry) -> Self {
-        Call { kind, geometry, budget: 0, offset: 0, data: &[] }
+        Call { kind, geometry, budget: 0, offset: 0, data: &[], length: 0, crc: 0 }
     }
 }
 
@@ -233,6 +251,7 @@ pub const NO_STATE: u8 = 255;
 pub const DONE: u8 = 0;
 pub const BAD_STATE: u8 = 5;
 pub const CUT: u8 = 7;
+pub const WRONG_SUM: u8 = 8;
 
 /// number * 2^40 + state * 2^32 + operations
 pub fn pack(number: u8, state: u8, operations: u32) -> u64 {
@@ -298,6 +317,12 @@ mod tests {
         for (i, kind) in Kind::ALL.iter().enumerate() {
             assert_eq!(*kind as usize, i);
         }
+    }
+
+    #[test]
+    fn one_call_is_lent_no_area() {
+        let other: Vec<&Kind> = Kind::ALL.iter().filter(|kind| !Kind::WITH_AREAS.contains(kind)).collect();
+        assert_eq!(other, [&Kind::StateFrom]);
     }
 
     #[test]

@@ -4,8 +4,8 @@ use std::panic::{AssertUnwindSafe, catch_unwind};
 use std::process::exit;
 
 use call::{
-    Answers, Bench, CUT, Call, Family, Hex, Kind, NO_STATE, Original, Word, ZEROS, number_of, operations_of,
-    pack,
+    Answers, BAD_STATE, Bench, CUT, Call, Family, Hex, Kind, NO_STATE, Original, WRONG_SUM, Word, ZEROS,
+    number_of, operations_of, pack,
 };
 use library::GuardedLibrary;
 use model::Model;
@@ -25,7 +25,7 @@ struct Share {
 
 #[derive(Default)]
 pub struct Judge {
-    counts: [u64; 14],
+    counts: [u64; Kind::ALL.len()],
     by_original: u64,
     at_zero: Share,
     refused: u64,
@@ -48,7 +48,7 @@ impl Judge {
         let refusal = refusal_of(call, before);
         // what the Rust doesn't know is left to the definition
         let known = !Model::finishes_confirmation(call, &self.expected.lend());
-        let word = match side.filter(|_| known && (refusal == 0 || refusal == 5)) {
+        let word = match side.filter(|_| known && matches!(refusal, 0 | BAD_STATE | WRONG_SUM)) {
             Some(side) => {
                 self.count_original(call);
                 let word = self.ask_original(side, call, before);
@@ -263,7 +263,10 @@ pub fn refusal_of(call: &Call, before: &Bench) -> u8 {
         out: before.out.len(),
     };
     let word = call.geometry.ws as usize;
-    table::refusal(call, &lengths, || before.state[..word].iter().all(|byte| *byte == 0xF0))
+    match table::refusal(call, &lengths, || before.state[..word].iter().all(|byte| *byte == 0xF0)) {
+        0 if table::wrong_sum(call, &before.dfu) => WRONG_SUM,
+        lower => lower,
+    }
 }
 
 fn print_call(call: &Call, before: &Bench) {
@@ -273,6 +276,7 @@ fn print_call(call: &Call, before: &Bench) {
     println!(" erase value {}", g.ev);
     println!("  lengths La {} Ld {} Ls {}", before.active.len(), before.dfu.len(), before.state.len());
     println!("  budget {} offset {} last {}", call.budget, call.offset, before.last);
+    println!("  length {} sum {:08x}", call.length, call.crc);
     println!("  data   {}", Hex(call.data));
     if call.kind.family() == Family::Boot {
         println!("  active {}", Hex(&before.active));

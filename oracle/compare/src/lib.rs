@@ -1,6 +1,7 @@
 //! Compares the library with the original, call by call.
 
 pub mod boots;
+pub mod checks;
 pub mod judge;
 pub mod lives;
 pub mod power;

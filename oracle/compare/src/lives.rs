@@ -27,8 +27,13 @@ pub fn lives(judge: &mut Judge, random: &mut Random) {
 fn step(judge: &mut Judge, random: &mut Random, side: &dyn Original, shape: &Shape, bench: &mut Bench) {
     let kind = match random.below(4) {
         0 | 1 => Kind::PrepareBoot,
-        2 => *random.pick(&[Kind::StateMarkUpdated, Kind::UpdaterMarkUpdated, Kind::WriteFirmware]),
-        _ => *random.pick(&Kind::ALL[..13]),
+        2 => *random.pick(&[
+            Kind::StateMarkUpdated,
+            Kind::UpdaterMarkUpdated,
+            Kind::CheckAndMarkUpdated,
+            Kind::WriteFirmware,
+        ]),
+        _ => *random.pick(&Kind::WITH_AREAS),
     };
     let write = shape.geometry.wd as usize;
     let units = shape.ld / write;
@@ -48,7 +53,19 @@ fn step(judge: &mut Judge, random: &mut Random, side: &dyn Original, shape: &Sha
         1 => random.below(5) as u32,
         _ => random.below(3 * cost) as u32,
     };
-    let call = Call { budget, offset: (from * write) as u64, data: &data, ..Call::of(kind, shape.geometry) };
+    // most checks come with the right sum
+    let crc = match kind {
+        Kind::CheckAndMarkUpdated => sums::crc32(&bench.dfu[..length]) ^ u32::from(random.once_in(4)),
+        _ => 0,
+    };
+    let call = Call {
+        budget,
+        offset: (from * write) as u64,
+        data: &data,
+        length: length as u64,
+        crc,
+        ..Call::of(kind, shape.geometry)
+    };
     judge.call(Some(side), &call, bench);
     bench.clone_from(judge.expected());
 }

@@ -19,6 +19,9 @@ struct Input {
     offset: u64,
     data: usize,
     out: usize,
+    length: u64,
+    /// whether the sum that is given is another than that of `length` bytes
+    wrong_sum: bool,
     /// what word 0 holds; erased without one
     magic: Option<u8>,
 }
@@ -34,6 +37,8 @@ enum Change {
     Offset(u64),
     Data(usize),
     Out(usize),
+    Length(u64),
+    WrongSum,
     Magic(Option<u8>),
 }
 
@@ -49,6 +54,8 @@ impl Input {
             Change::Offset(value) => next.offset = value,
             Change::Data(value) => next.data = value,
             Change::Out(value) => next.out = value,
+            Change::Length(value) => next.length = value,
+            Change::WrongSum => next.wrong_sum = true,
             Change::Magic(value) => next.magic = value,
         }
         next
@@ -115,6 +122,13 @@ impl Input {
             all.extend(far.map(Change::Offset));
             all.extend(far.map(|x| Change::Offset(x / w * w)));
         }
+        if kind == Kind::CheckAndMarkUpdated {
+            let end = self.ld as u64;
+            let far = [1 << 32, (1 << 32) + end, 1 << 63, u64::MAX];
+            all.extend([0, 1, end / 2, end, end + 1, 2 * end].map(Change::Length));
+            all.extend(far.map(Change::Length));
+            all.push(Change::WrongSum);
+        }
         all
     }
 }
@@ -143,8 +157,19 @@ const STARTS: [Input; 6] = [
     Input { numbers: [64, 16, 64, 32, 40, 8, 32], la: 128, ld: 256, ls: 120, ..PLAIN },
 ];
 
-const PLAIN: Input =
-    Input { numbers: [0; 7], ev: ONES, la: 0, ld: 0, ls: 0, offset: 0, data: 0, out: 0, magic: None };
+const PLAIN: Input = Input {
+    numbers: [0; 7],
+    ev: ONES,
+    la: 0,
+    ld: 0,
+    ls: 0,
+    offset: 0,
+    data: 0,
+    out: 0,
+    length: 0,
+    wrong_sum: false,
+    magic: None,
+};
 
 /// The bench and data that inputs are laid out on; kept, so that long areas are allocated once.
 #[derive(Default)]
@@ -167,8 +192,16 @@ impl Table {
         bench.out.resize(input.out, 0x77);
         bench.last = 1;
         self.data.resize(input.data, 0x0F);
-        let call =
-            Call { budget, offset: input.offset, data: &self.data, ..Call::of(kind, input.geometry()) };
+        let summed = usize::try_from(input.length).ok().and_then(|length| bench.dfu.get(..length));
+        let crc = summed.map_or(0, sums::crc32) ^ u32::from(input.wrong_sum);
+        let call = Call {
+            budget,
+            offset: input.offset,
+            data: &self.data,
+            length: input.length,
+            crc,
+            ..Call::of(kind, input.geometry())
+        };
         (call, bench)
     }
 
@@ -182,13 +215,16 @@ impl Table {
 pub fn small(judge: &mut Judge, _: &mut Random) {
     let mut table = Table::default();
     for (ev, start) in ERASE_VALUES.into_iter().flat_map(|ev| STARTS.map(|start| (ev, start))) {
-        for kind in Kind::ALL.into_iter().filter(|kind| *kind != Kind::StateFrom) {
+        for kind in Kind::WITH_AREAS {
             let mut start = Input { ev, ..start };
             if kind == Kind::WriteFirmware {
                 start.data = start.numbers[3] as usize;
             }
             if kind == Kind::ReadDfu {
                 start.out = start.numbers[3] as usize;
+            }
+            if kind == Kind::CheckAndMarkUpdated {
+                start.length = start.ld as u64 - 1;
             }
             let changes = start.changes(kind);
             for budget in [0, u32::MAX] {
@@ -210,10 +246,11 @@ pub fn small(judge: &mut Judge, _: &mut Random) {
 pub fn random(judge: &mut Judge, random: &mut Random) {
     let mut table = Table::default();
     for _ in 0..60_000 {
-        let kind = *random.pick(&Kind::ALL[..13]);
+        let kind = *random.pick(&Kind::WITH_AREAS);
         let mut input = Input { ev: *random.pick(&ERASE_VALUES), ..*random.pick(&STARTS) };
         input.data = random.below(9);
         input.out = random.below(9);
+        input.length = random.below(9) as u64;
         let changes = Input { ld: input.ld.max(9), ..input }.changes(kind);
         for _ in 0..1 + random.below(5) {
             input = input.with(random.pick(&changes));
@@ -227,7 +264,7 @@ pub fn samples(random: &mut Random, count: usize, mut visit: impl FnMut(&Call, &
     let mut table = Table::default();
     let mut found = 0;
     while found < count {
-        let kind = Kind::ALL[found % 13];
+        let kind = Kind::ALL[found % Kind::StateFrom as usize];
         let mut input = Input { ev: *random.pick(&ERASE_VALUES), ..*random.pick(&STARTS[..5]) };
         if kind == Kind::WriteFirmware {
             input.data = input.numbers[3] as usize;
@@ -298,8 +335,8 @@ fn large_at(judge: &mut Judge, ev: u32) {
     let paged = Input { numbers: [4096, 4, 4096, 4, 4096, 4, 256], la: 4096, ld: 8192, ls: 8192, ..plain };
     for length in [LONGEST - 1, LONGEST, LONGEST + 1] {
         // a call on such areas takes long, and one byte less than the limit is like any other length
-        let kinds = if length < LONGEST { 1 } else { 13 };
-        for kind in &Kind::ALL[..kinds] {
+        let kinds = if length < LONGEST { 1 } else { Kind::WITH_AREAS.len() };
+        for kind in &Kind::WITH_AREAS[..kinds] {
             for change in [Change::La(length), Change::Ld(length), Change::Ls(length)] {
                 table.ask(judge, *kind, &paged.with(&change), 2);
             }

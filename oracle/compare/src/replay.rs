@@ -18,6 +18,9 @@ const SEED: u64 = 0x0EBB;
 const MAGIC: &[u8; 4] = b"EBRP";
 const VERSION: u32 = 2;
 
+/// The calls that the format knows: those that document 01 has.
+const KINDS: &[Kind] = Kind::ALL.split_at(Kind::StateFrom as usize + 1).0;
+
 /// Bytes of a record before its areas.
 const FIXED: usize = 88;
 
@@ -38,8 +41,8 @@ pub fn write(path: &Path) -> io::Result<(usize, usize)> {
         file.extend_from_slice(&record.call);
     }
     fs::write(path, &file)?;
-    for kind in Kind::ALL {
-        let count = records.iter().filter(|record| record.kind == kind).count();
+    for kind in KINDS {
+        let count = records.iter().filter(|record| record.kind == *kind).count();
         println!("{:>4} {}", count, kind.name());
     }
     Ok((records.len(), file.len()))
@@ -118,7 +121,7 @@ fn sample() -> Vec<Record> {
         let call = Call { budget: u32::MAX, ..crate::boots::boot(shape.geometry) };
         records.push(record(side, &call, &bench));
     }
-    for kind in &Kind::ALL[1..] {
+    for kind in &KINDS[1..] {
         let count = match kind {
             Kind::WriteFirmware => 90,
             Kind::ReadDfu | Kind::StateFrom => 30,
@@ -256,7 +259,7 @@ pub fn check(path: &Path) -> io::Result<(usize, usize)> {
 
 fn replay_one(i: usize, mut reader: Reader) -> bool {
     reader.number();
-    let kind = Kind::ALL[reader.number() as usize];
+    let kind = KINDS[reader.number() as usize];
     let [ea, wa, ed, wd, es, ws, b, ev] = std::array::from_fn(|_| reader.number());
     let geometry = Geometry { ea, wa, ed, wd, es, ws, b, ev };
     let [la, ld, ls, data_length, out_length] = std::array::from_fn(|_| reader.number() as usize);

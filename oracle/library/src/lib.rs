@@ -62,7 +62,7 @@ impl Answers for Library {
         let firmware = FirmwareState { es, ws, ev };
         let sizes = Sizes { ed, wd, es, ws, ev };
         let Lent { active, dfu, state, out, last } = lent;
-        let Call { budget, offset, data, .. } = *call;
+        let Call { budget, offset, data, length, crc, .. } = *call;
         match call.kind {
             Kind::PrepareBoot => eb_prepare_boot(active, dfu, state, all, budget),
             Kind::ReadState => eb_read_state(state, firmware),
@@ -82,6 +82,9 @@ impl Answers for Library {
             Kind::WriteFirmware => eb_updater_write_firmware(dfu, state, sizes, offset, data, last, budget),
             Kind::PrepareUpdate => eb_updater_prepare_update(dfu, state, sizes, budget),
             Kind::StateFrom => u64::from(eb_state_from(data)),
+            Kind::CheckAndMarkUpdated => {
+                eb_updater_check_and_mark_updated(dfu, state, sizes, length, crc, budget)
+            }
         }
     }
 }

@@ -3,7 +3,9 @@
 //!
 //! The model can be told to err in one named way (`Wrong`): that is how the comparison itself is tested.
 
-use call::{Answers, CUT, Call, DONE, Geometry, Kind, Lent, NO_SECTOR, NO_STATE, ONES, ZEROS, pack};
+use call::{
+    Answers, CUT, Call, DONE, Geometry, Kind, Lent, NO_SECTOR, NO_STATE, ONES, WRONG_SUM, ZEROS, pack,
+};
 
 use crate::table::{self, Lengths};
 
@@ -68,10 +70,26 @@ pub enum Wrong {
     InvalidationOfZero,
     ValidityOfOnes,
     MarkOpenByOnes,
+    SumUnchecked,
+    SumHalfCompared,
+    SumOneByteLess,
+    SumOneByteMore,
+    SumOfWholeArea,
+    SumNotReflected,
+    SumNotInverted,
+    SumFromZero,
+    NoBytesUnchecked,
+    SumBeforeRange,
+    SumBeforeState,
+    CheckSkipsState,
+    CheckLengthTruncated,
+    WholeAreaRefused,
+    MarksBeforeSum,
+    WrongSumErasesState,
 }
 
 impl Wrong {
-    pub const ALL: [(&'static str, Wrong); 57] = [
+    pub const ALL: [(&'static str, Wrong); 73] = [
         ("low-pages-first", Wrong::LowPagesFirst),
         ("revert-high-pages-first", Wrong::RevertHighPagesFirst),
         ("count-one-more", Wrong::CountOneMore),
@@ -130,6 +148,23 @@ impl Wrong {
         ("invalidation-of-zero", Wrong::InvalidationOfZero),
         ("validity-of-ones", Wrong::ValidityOfOnes),
         ("mark-open-by-ones", Wrong::MarkOpenByOnes),
+        // request No. 7: which bytes are summed, how, and when it is asked
+        ("sum-unchecked", Wrong::SumUnchecked),
+        ("sum-half-compared", Wrong::SumHalfCompared),
+        ("sum-one-byte-less", Wrong::SumOneByteLess),
+        ("sum-one-byte-more", Wrong::SumOneByteMore),
+        ("sum-of-whole-area", Wrong::SumOfWholeArea),
+        ("sum-not-reflected", Wrong::SumNotReflected),
+        ("sum-not-inverted", Wrong::SumNotInverted),
+        ("sum-from-zero", Wrong::SumFromZero),
+        ("no-bytes-unchecked", Wrong::NoBytesUnchecked),
+        ("sum-before-range", Wrong::SumBeforeRange),
+        ("sum-before-state", Wrong::SumBeforeState),
+        ("check-skips-state", Wrong::CheckSkipsState),
+        ("check-length-truncated", Wrong::CheckLengthTruncated),
+        ("whole-area-refused", Wrong::WholeAreaRefused),
+        ("marks-before-sum", Wrong::MarksBeforeSum),
+        ("wrong-sum-erases-state", Wrong::WrongSumErasesState),
     ];
 
     pub fn named(name: &str) -> Option<Wrong> {
@@ -202,6 +237,7 @@ impl Answers for Model {
         let call = &self.taken(call);
         let refused = self.refusal(call, &lent);
         if refused != 0 {
+            self.spoil_refused(refused, call, lent);
             return pack(refused, NO_STATE, 0);
         }
         match call.kind {
@@ -209,7 +245,7 @@ impl Answers for Model {
             Kind::ReadState | Kind::StateGetState | Kind::UpdaterGetState => {
                 pack(DONE, self.state_of(&lent.state[..call.geometry.ws as usize]), 0)
             }
-            Kind::StateMarkUpdated | Kind::UpdaterMarkUpdated => {
+            Kind::StateMarkUpdated | Kind::UpdaterMarkUpdated | Kind::CheckAndMarkUpdated => {
                 self.with_budget(call, lent, |run| run.mark(call, SWAP))
             }
             Kind::StateMarkDfu | Kind::UpdaterMarkDfu => {
@@ -246,7 +282,7 @@ impl Model {
         Model::RIGHT.state_of(run.word(0)) == SWAP && run.confirming(lent.active.len() / call.geometry.page())
     }
 
-    /// The call as it came, but for an erase value that is wrongly taken for another.
+    /// The call as it came, but for a number that is wrongly taken for another.
     fn taken<'a>(&self, call: &Call<'a>) -> Call<'a> {
         let ev = match (self.wrong, call.geometry.ev) {
             (Wrong::EraseValueIgnored, ZEROS) => ONES,
@@ -255,7 +291,11 @@ impl Model {
             (Wrong::EraseValue254Admitted, 254) => ONES,
             (_, ev) => ev,
         };
-        with_erase_value(call, ev)
+        let length = match self.wrong {
+            Wrong::CheckLengthTruncated => call.length & 0xFFFF_FFFF,
+            _ => call.length,
+        };
+        Call { length, ..with_erase_value(call, ev) }
     }
 
     fn refusal(&self, call: &Call, lent: &Lent) -> u8 {
@@ -266,10 +306,56 @@ impl Model {
             out: lent.out.len(),
         };
         let word = call.geometry.ws as usize;
-        let right = table::refusal(call, &lengths, || self.state_of(&lent.state[..word]) == SWAP);
+        let right = match table::refusal(call, &lengths, || self.state_of(&lent.state[..word]) == SWAP) {
+            0 if self.wrong_sum(call, lent.dfu) => WRONG_SUM,
+            lower => lower,
+        };
         match self.wrong {
             Wrong::Nothing => right,
             _ => self.spoilt_refusal(right, call, lent, lengths),
+        }
+    }
+
+    /// Row 8, spoilt where the model is told to err there.
+    fn wrong_sum(&self, call: &Call, dfu: &[u8]) -> bool {
+        if call.kind != Kind::CheckAndMarkUpdated || self.wrong == Wrong::Nothing {
+            return table::wrong_sum(call, dfu);
+        }
+        let length = call.length as usize;
+        let bytes = match self.wrong {
+            Wrong::SumOneByteLess => &dfu[..length.saturating_sub(1)],
+            Wrong::SumOneByteMore => &dfu[..dfu.len().min(length + 1)],
+            Wrong::SumOfWholeArea => dfu,
+            _ => &dfu[..length],
+        };
+        let sum = sums::crc32(bytes);
+        let sum = match self.wrong {
+            Wrong::SumNotInverted => !sum,
+            // bits of a byte highest first, in the bytes and in the sum
+            Wrong::SumNotReflected => {
+                let turned: Vec<u8> = bytes.iter().map(|byte| byte.reverse_bits()).collect();
+                sums::crc32(&turned).reverse_bits()
+            }
+            // what beginning with ones adds is what it makes of zeros
+            Wrong::SumFromZero => !(sum ^ sums::crc32(&vec![0; bytes.len()])),
+            _ => sum,
+        };
+        match self.wrong {
+            Wrong::SumUnchecked => false,
+            Wrong::NoBytesUnchecked if length == 0 => false,
+            Wrong::SumHalfCompared => sum as u16 != call.crc as u16,
+            _ => sum != call.crc,
+        }
+    }
+
+    /// What a refusal changes, where the model is told to err there.
+    fn spoil_refused(&self, refused: u8, call: &Call, lent: Lent) {
+        match self.wrong {
+            Wrong::MarksBeforeSum if refused == WRONG_SUM => {
+                self.with_budget(call, lent, |run| run.mark(call, SWAP));
+            }
+            Wrong::WrongSumErasesState if refused == WRONG_SUM => lent.state.fill(call.geometry.erased()),
+            _ => {}
         }
     }
 
@@ -330,6 +416,26 @@ impl Model {
             Wrong::OneStateWordEnough if right == 4 && call.kind == Kind::StateGetState => {
                 let words = Lengths { state: 2 * lengths.state, ..lengths };
                 table::refusal(call, &words, || false)
+            }
+            Wrong::SumBeforeRange if right == 6 && call.kind == Kind::CheckAndMarkUpdated => {
+                // of the bytes that there are
+                if sums::crc32(lent.dfu) != call.crc { WRONG_SUM } else { right }
+            }
+            Wrong::SumBeforeState | Wrong::CheckSkipsState
+                if right == 5 && call.kind == Kind::CheckAndMarkUpdated =>
+            {
+                match table::refusal(call, &lengths, || false) {
+                    0 if self.wrong_sum(call, lent.dfu) => WRONG_SUM,
+                    later if self.wrong == Wrong::CheckSkipsState => later,
+                    _ => right,
+                }
+            }
+            Wrong::WholeAreaRefused
+                if matches!(right, 0 | WRONG_SUM)
+                    && call.kind == Kind::CheckAndMarkUpdated
+                    && call.length == lengths.dfu as u64 =>
+            {
+                6
             }
             Wrong::RangeBeforeState if right == 5 => match table::refusal(call, &lengths, || false) {
                 6 => 6,

@@ -17,7 +17,7 @@ const LARGEST_NUMBER: u128 = 65_536;
 const LONGEST_AREA: u128 = 16_777_216;
 const LARGEST_PAGE: u128 = 1_048_576;
 
-/// The lowest row that holds, 0 where none does. `swap` is only asked where rows 1 to 4 don't hold.
+/// The lowest of rows 1 to 6 that holds, 0 where none does; row 8 is `wrong_sum`. `swap` is only asked where rows 1 to 4 don't hold.
 pub fn refusal(call: &Call, lengths: &Lengths, swap: impl FnOnce() -> bool) -> u8 {
     if call.kind.family() == Family::Bytes {
         return 0;
@@ -147,7 +147,10 @@ fn row_4(f: &Facts, family: Family) -> bool {
 
 /// Calls that a Swap state forbids.
 fn row_5(kind: Kind) -> bool {
-    matches!(kind, Kind::UpdaterMarkDfu | Kind::WriteFirmware | Kind::PrepareUpdate)
+    matches!(
+        kind,
+        Kind::UpdaterMarkDfu | Kind::WriteFirmware | Kind::PrepareUpdate | Kind::CheckAndMarkUpdated
+    )
 }
 
 /// The bytes asked for aren't in the DFU, or aren't whole write units.
@@ -159,8 +162,14 @@ fn row_6(f: &Facts, call: &Call, out: usize) -> bool {
         Kind::WriteFirmware if length > 0 => {
             uneven(offset, f.wd) || uneven(length, f.wd) || offset + length > f.ld
         }
+        Kind::CheckAndMarkUpdated => u128::from(call.length) > f.ld,
         _ => false,
     }
+}
+
+/// Row 8, of request No. 7: the bytes asked for have another sum. Only asked where none of the rows above holds.
+pub fn wrong_sum(call: &Call, dfu: &[u8]) -> bool {
+    call.kind == Kind::CheckAndMarkUpdated && sums::crc32(&dfu[..call.length as usize]) != call.crc
 }
 
 #[cfg(test)]
@@ -203,6 +212,21 @@ mod tests {
         }
         assert_eq!(boot(Geometry { ev: 0, b: 3, ..SHEET }, LENGTHS), 2);
         assert_eq!(boot(Geometry { ev: 254, b: 3, ..SHEET }, LENGTHS), 1);
+    }
+
+    /// Up to the area's length, and no sum is cut to fewer bits.
+    #[test]
+    fn a_length_to_sum() {
+        let check = |length, swap| {
+            let call = Call { length, ..Call::of(Kind::CheckAndMarkUpdated, SHEET) };
+            refusal(&call, &LENGTHS, || swap)
+        };
+        for (length, number) in [(0, 0), (16, 0), (17, 6), (1 << 32, 6), (u64::MAX, 6)] {
+            assert_eq!((check(length, false), check(length, true)), (number, 5));
+        }
+        let sum = |crc| Call { length: 9, crc, ..Call::of(Kind::CheckAndMarkUpdated, SHEET) };
+        assert!(!wrong_sum(&sum(0xCBF4_3926), b"123456789 and more"));
+        assert!(wrong_sum(&sum(0xCBF4_3927), b"123456789 and more"));
     }
 
     #[test]

@@ -4,7 +4,7 @@
 //! Only admitted inputs may be asked here (no refusal of document 01 but 5); on others the text panics or
 //! does what 01 refuses.
 
-use call::{Answers, BAD_STATE, CUT, Call, DONE, Kind, Lent, NO_SECTOR, NO_STATE, Original, pack};
+use call::{Answers, BAD_STATE, CUT, Call, DONE, Kind, Lent, NO_SECTOR, NO_STATE, Original, WRONG_SUM, pack};
 use embedded_storage::nor_flash::NorFlashErrorKind;
 
 use crate::mem_flash::{MemFlash, Mode, Operation, Supply};
@@ -133,6 +133,10 @@ fn run_updater<const ED: usize, const WD: usize, const ES: usize, const WS: usiz
     out: &mut [u8],
 ) -> u64 {
     let result = match call.kind {
+        Kind::CheckAndMarkUpdated => match check_and_mark_updated(updater, call) {
+            Ok(false) => return pack(WRONG_SUM, NO_STATE, 0),
+            marked => marked.map(|_| None),
+        },
         Kind::UpdaterGetState => updater.get_state().map(Some),
         Kind::UpdaterMarkUpdated => updater.mark_updated().map(|()| None),
         Kind::UpdaterMarkDfu => updater.mark_dfu().map(|()| None),
@@ -143,6 +147,22 @@ fn run_updater<const ED: usize, const WD: usize, const ES: usize, const WS: usiz
         other => unreachable!("{other:?} is no updater call"),
     };
     from_updater(result, supply, call)
+}
+
+/// Request No. 7's call, which the text doesn't have, put together from what it has: a write of nothing asks the state, as
+/// write_firmware does, and the bytes come from read_dfu. False for a wrong sum.
+fn check_and_mark_updated<const ED: usize, const WD: usize, const ES: usize, const WS: usize>(
+    updater: &mut Updater<ED, WD, ES, WS>,
+    call: &Call,
+) -> Result<bool, FirmwareUpdaterError> {
+    updater.write_firmware(0, &[])?;
+    let mut image = vec![0xA5; call.length as usize];
+    updater.read_dfu(0, &mut image)?;
+    if sums::crc32(&image) != call.crc {
+        return Ok(false);
+    }
+    updater.mark_updated()?;
+    Ok(true)
 }
 
 /// Brings the updater's memory to a value by its own code: one write into that sector of a flash that

@@ -74,6 +74,8 @@ struct Brought<'a> {
     out: Bytes<'a>,
     data: Bytes<'a>,
     last: Option<&'a mut u32>,
+    length: u64,
+    crc: u32,
     budget: u32,
     /// in the data's place
     bytes: Bytes<'a>,
@@ -84,7 +86,14 @@ impl Brought<'_> {
     fn answer(mut self, name: &str) -> u64 {
         let kind = *Kind::ALL.iter().find(|kind| kind.name() == name).expect("a call of this name");
         let data = if kind == Kind::StateFrom { self.bytes.lend() } else { self.data.lend() };
-        let call = Call { budget: self.budget, offset: self.offset, data, ..Call::of(kind, self.sizes) };
+        let call = Call {
+            budget: self.budget,
+            offset: self.offset,
+            data,
+            length: self.length,
+            crc: self.crc,
+            ..Call::of(kind, self.sizes)
+        };
         let mut none = NO_SECTOR;
         let lent = Lent {
             active: self.active.lend(),

@@ -8,15 +8,18 @@ use std::time::Instant;
 
 use compare::judge::Judge;
 use compare::random::Random;
-use compare::{boots, lives, power, refusals, replay, sheet, updaters};
+use compare::{boots, checks, lives, power, refusals, replay, sheet, updaters};
 
 const USAGE: &str = "usage: compare [--seed N] | compare --replay FILE | compare --check-replay FILE";
 
 type Section = fn(&mut Judge, &mut Random);
 
 /// The whole comparison, part by part; the long parts stand at the end, so that most faults show early.
-const SECTIONS: [(&str, Section); 19] = [
+const SECTIONS: [(&str, Section); 22] = [
     ("State::from", updaters::state_from),
+    ("check_and_mark_updated, all lengths", checks::all_lengths),
+    ("check_and_mark_updated, bits and bursts", checks::bursts),
+    ("check_and_mark_updated, compiled geometries", checks::compiled_rows),
     ("smallest state areas, marks", updaters::exhaustive_marks),
     ("compiled geometries, plain calls", updaters::plain_calls),
     ("write_firmware, all offsets and lengths", updaters::exhaustive_writes),
