@@ -81,7 +81,7 @@ enum {
 
     /* eb_updater_read_dfu: offset + out_length is above dfu_length. eb_updater_write_firmware, where data is not empty: offset or
      * data_length is no multiple of wd, or offset + data_length is above dfu_length. eb_updater_check_and_mark_updated: length is
-     * above dfu_length. No sum wraps. */
+     * above dfu_length. eb_updater_hash: length is above dfu_length, or chunk is 0, or out_length is not 64. No sum wraps. */
     EB_RANGE = 6,
 
     /* The budget was used up and one more operation was wanted. Precisely the operations done are in the flash, in order, and each
@@ -194,6 +194,13 @@ EB_RESULT uint64_t eb_updater_read_dfu(const uint8_t *dfu, size_t dfu_length, co
                                        uint32_t ed, uint32_t wd, uint32_t es, uint32_t ws, uint32_t ev, uint32_t offset,
                                        uint8_t *out, size_t out_length);
 
+/* Sets out, which must be 64 bytes long, to the SHA-512 (FIPS 180-4) of the first length bytes of DFU. They are read in pieces of chunk
+ * bytes, the last one shorter; the digest is the same for every chunk, which may also be longer than DFU. The state is not asked. 0
+ * operations. Also refused: 6, which leaves out as it was. */
+EB_RESULT uint64_t eb_updater_hash(const uint8_t *dfu, size_t dfu_length, const uint8_t *state, size_t state_length, uint32_t ed,
+                                   uint32_t wd, uint32_t es, uint32_t ws, uint32_t ev, uint64_t length, uint64_t chunk,
+                                   uint8_t *out, size_t out_length);
+
 /* Writes data at offset of DFU, in pieces up to each sector's end: the sector is erased unless it is the one last erased, then the
  * piece is written, an operation each. *last is that memory: start an update with EB_NO_SECTOR and hand the same variable to each
  * call of it. It is set when an erase is done, also where the call is cut later; a refusal leaves it as it came. To go back to an
@@ -302,6 +309,12 @@ EB_RESULT static inline uint64_t eb_updater_read_dfu_with(const uint8_t *dfu, si
                                                           uint8_t *out, size_t out_length)
 {
     return eb_updater_read_dfu(dfu, dfu_length, state, state_length, g->ed, g->wd, g->es, g->ws, g->ev, offset, out, out_length);
+}
+EB_RESULT static inline uint64_t eb_updater_hash_with(const uint8_t *dfu, size_t dfu_length, const uint8_t *state,
+                                                      size_t state_length, const struct eb_geometry *g, uint64_t length,
+                                                      uint64_t chunk, uint8_t *out, size_t out_length)
+{
+    return eb_updater_hash(dfu, dfu_length, state, state_length, g->ed, g->wd, g->es, g->ws, g->ev, length, chunk, out, out_length);
 }
 EB_RESULT static inline uint64_t eb_updater_write_firmware_with(uint8_t *dfu, size_t dfu_length, const uint8_t *state,
                                                                 size_t state_length, const struct eb_geometry *g,

@@ -1,4 +1,5 @@
-/* Times the library's sum beside zlib's and beside the same table loop in C, by turns in one run: medians, in microseconds.
+/* Times the library's sum beside zlib's and beside the same table loop in C, and its digest beside sha512sum and libcrypto's, by turns
+ * in one run: medians, in microseconds. sha512sum is timed as a program that reads a file; the file lies in memory by then.
  * `../speed-sums` compiles and runs it. */
 #define _POSIX_C_SOURCE 200809L
 #include "embassy_boot.h"
@@ -9,7 +10,7 @@
 #include <string.h>
 #include <time.h>
 
-enum { RUNS = 31, SUMMED = 1 << 20 };
+enum { RUNS = 31, SUMMED = 1 << 20, HASHED = 1 << 24 };
 
 static uint8_t *image, state[4096];
 
@@ -96,17 +97,63 @@ static void sums(void)
            ours / theirs, ours / loop);
 }
 
+/* The digest that sha512sum prints for the file, as 64 bytes; none where it does not print one. */
+static int sha512sum(const char *file, uint8_t *digest)
+{
+    char command[64], text[129] = "";
+    snprintf(command, sizeof command, "sha512sum < %s", file);
+    FILE *from = popen(command, "r");
+    int read = from && fread(text, 1, 128, from) == 128;
+    for (int i = 0; read && i < 64; i++)
+        read = sscanf(text + 2 * i, "%2hhx", digest + i) == 1;
+    return from && pclose(from) == 0 && read;
+}
+
+static uint64_t hash(uint64_t chunk, uint8_t *digest)
+{
+    return eb_updater_hash(image, HASHED, state, sizeof state, 4096, 4, 4096, 4, 255, HASHED, chunk, digest, 64);
+}
+
+static void digests(void)
+{
+    unsigned char *(*libcrypto)(const unsigned char *, size_t, unsigned char *);
+    uint8_t ours[64], theirs[64], printed[64];
+    double times[4][RUNS], begin;
+    char file[] = "/tmp/speed-sums-XXXXXX";
+    *(void **)&libcrypto = function("libcrypto.so.3", "SHA512");
+    const int open_file = mkstemp(file);
+    FILE *to = open_file < 0 ? NULL : fdopen(open_file, "wb");
+    must(to && fwrite(image, 1, HASHED, to) == HASHED && fclose(to) == 0, "the file cannot be written");
+
+    int same = 1;
+    for (int i = 0; i < RUNS; i++) {
+        begin = now(), same &= sha512sum(file, printed), times[0][i] = now() - begin;
+        begin = now(), libcrypto(image, HASHED, theirs), times[1][i] = now() - begin;
+        begin = now(), same &= eb_number(hash(4096, ours)) == EB_DONE, times[2][i] = now() - begin;
+        same &= !memcmp(ours, theirs, 64) && !memcmp(ours, printed, 64);
+        begin = now(), same &= eb_number(hash(HASHED, ours)) == EB_DONE, times[3][i] = now() - begin;
+        same &= !memcmp(ours, theirs, 64);
+    }
+    remove(file);
+    must(same, "the digests differ");
+    const double program = median(times[0]), other = median(times[1]), pieces = median(times[2]), whole = median(times[3]);
+    printf("SHA-512 of 16 MiB: sha512sum %.0f, libcrypto %.0f, library by 4,096 %.0f, in one piece %.0f; to sha512sum %.2f and %.2f, to "
+           "libcrypto %.2f and %.2f\n",
+           program, other, pieces, whole, pieces / program, whole / program, pieces / other, whole / other);
+}
+
 int main(void)
 {
-    image = malloc(SUMMED);
+    image = malloc(HASHED);
     must(image != NULL, "no memory");
     uint32_t number = 1;
-    for (size_t i = 0; i < SUMMED; i++) {
+    for (size_t i = 0; i < HASHED; i++) {
         number = number * 1664525 + 1013904223;
         image[i] = (uint8_t)(number >> 24);
     }
     memset(state, 0xFF, sizeof state);
     make_table();
     sums();
+    digests();
     return 0;
 }

@@ -84,8 +84,9 @@ pub enum Refusal {
     /// 5: a swap is pending, that is, the state reads [`State::Swap`]: from mark_updated on until the new firmware is confirmed or
     /// taken back. Only the updater's mark_dfu, write_firmware, prepare_update and check_and_mark_updated ask.
     BadState,
-    /// 6: read_dfu asks for bytes past DFU's end, or check_and_mark_updated for the sum of such. Or write_firmware's data, where it
-    /// isn't empty, ends past DFU's end, or its offset or length is no multiple of `wd`.
+    /// 6: read_dfu asks for bytes past DFU's end, or check_and_mark_updated for the sum of such, or hash for their digest; or hash is
+    /// given a chunk of 0 or an output that isn't 64 bytes long. Or write_firmware's data, where it isn't empty, ends past DFU's
+    /// end, or its offset or length is no multiple of `wd`.
     Range,
     /// 8, asked last: in check_and_mark_updated the bytes have another sum.
     WrongSum,
@@ -181,7 +182,9 @@ impl fmt::Display for Refusal {
             Refusal::Area => "an image is no whole number of pages, or DFU isn't a page longer than active",
             Refusal::StateArea => "the state area is no whole number of erase units, or has too few words",
             Refusal::BadState => "a swap is pending",
-            Refusal::Range => "the bytes asked for aren't in DFU, or not on its write units",
+            Refusal::Range => {
+                "the bytes asked for aren't in DFU, or not on its write units, or a digest's chunk or output doesn't serve"
+            }
             Refusal::WrongSum => "the bytes have another sum",
         };
         write!(f, "refused with {}: {why}", self.number())
@@ -468,6 +471,13 @@ impl FirmwareUpdater {
     /// was then.
     pub fn read_dfu(&self, dfu: &[u8], state: &[u8], offset: u32, out: &mut [u8]) -> Answer {
         answer(boundary::eb_updater_read_dfu(dfu, state, self.sizes, offset, out))
+    }
+
+    /// Sets `out`, which must be 64 bytes long, to the SHA-512 (FIPS 180-4) of the first `length` bytes of DFU. They are read in pieces
+    /// of `chunk` bytes, the last one shorter; the digest is the same for every chunk but 0. The state isn't asked.
+    /// [Refused](Refusal::Range) where DFU is shorter, or the chunk is 0, or `out` has another length; it is as it was then.
+    pub fn hash(&self, dfu: &[u8], state: &[u8], length: u64, chunk: u64, out: &mut [u8]) -> Answer {
+        answer(boundary::eb_updater_hash(dfu, state, self.sizes, length, chunk, out))
     }
 
     /// Writes data at an offset of DFU, in pieces up to each sector's end: the sector is erased unless it is the one last erased,

@@ -29,6 +29,9 @@ macro_rules! boundary {
         $each! { eb_updater_read_dfu(dfu: &[u8; dfu_length], state: &[u8; state_length], Sizes { ed, wd, es, ws, ev },
             offset: u32, out: &mut [u8; out_length]) -> u64 }
 
+        $each! { eb_updater_hash(dfu: &[u8; dfu_length], state: &[u8; state_length], Sizes { ed, wd, es, ws, ev },
+            length: u64, chunk: u64, out: &mut [u8; out_length]) -> u64 }
+
         $each! { eb_updater_write_firmware(dfu: &mut [u8; dfu_length], state: &[u8; state_length], Sizes { ed, wd, es, ws, ev },
             offset: u64, data: &[u8; data_length], last: &mut u32, budget: u32) -> u64 }
 

@@ -122,6 +122,7 @@ fn other_erase_values() {
         assert_eq!(updater.mark_dfu(&x.dfu, &mut x.state, FOREVER), no);
         assert_eq!(updater.mark_booted(&x.dfu, &mut x.state, FOREVER), no);
         assert_eq!(updater.check_and_mark_updated(&x.dfu, &mut x.state, 99, 1, FOREVER), no);
+        assert_eq!(updater.hash(&x.dfu, &x.state, 99, 0, &mut out), no);
         assert_eq!(updater.read_dfu(&x.dfu, &x.state, 0, &mut out), no);
         assert_eq!(updater.write_firmware(&mut x.dfu, &x.state, 1, &[1, 2], FOREVER), no);
         assert_eq!(updater.prepare_update(&mut x.dfu, &x.state, FOREVER), no);
@@ -284,6 +285,73 @@ fn sums() {
     }
     let answer = updater.check_and_mark_updated(&dfu[..15], &mut [0xFF; 16], 9, 0xCBF4_3926, FOREVER);
     assert_eq!(answer, Answer::Refused(Refusal::Area));
+}
+
+/// The digest of so many bytes of an area that is a little longer, in pieces of a chunk; the state reads Swap, which isn't asked.
+fn digest(message: &[u8], chunk: u64) -> String {
+    let sizes = Sizes { ed: 100, wd: 1, ..SIZES };
+    let mut dfu = message.to_vec();
+    dfu.resize((message.len() + 1).next_multiple_of(100), 0x5A);
+    let mut out = [0; 64];
+    let answer = FirmwareUpdater::new(sizes).hash(&dfu, &[0xF0; 16], message.len() as u64, chunk, &mut out);
+    assert_eq!(answer, Answer::Done(0));
+    out.iter().map(|byte| format!("{byte:02x}")).collect()
+}
+
+/// The examples of FIPS 180-4, in some chunks, and the one of 896 bits in every chunk up to 200.
+#[test]
+fn digests() {
+    let long = b"abcdefghbcdefghicdefghijdefghijkefghijklfghijklmghijklmnhijklmnoijklmnopjklmnopqklmnopqrlmnopqrsmnopqrstnopqrstu";
+    let million = vec![b'a'; 1_000_000];
+    let vectors: [(&[u8], &str); 4] = [
+        (
+            b"",
+            "cf83e1357eefb8bdf1542850d66d8007d620e4050b5715dc83f4a921d36ce9ce47d0d13c5d85f2b0ff8318d2877eec2f63b931bd47417a81a538327af927da3e",
+        ),
+        (
+            b"abc",
+            "ddaf35a193617abacc417349ae20413112e6fa4e89a97ea20a9eeee64b55d39a2192992a274fc1a836ba3c23a3feebbd454d4423643ce80e2a9ac94fa54ca49f",
+        ),
+        (
+            long,
+            "8e959b75dae313da8cf4f72814fc143f8f7779c6eb9f7fa17299aeadb6889018501d289e4900f7e4331b99dec4b5433ac7d329eeb6dd26545e96e55b874be909",
+        ),
+        (
+            &million,
+            "e718483d0ce769644e2e42c7bc15b4638e1f98b13b2044285632a803afa973ebde0ff244877ea60a4cb0432ce577c31beb009c5c2c49aa2e4eadb217ad8cc09b",
+        ),
+    ];
+    for (message, expected) in vectors {
+        for chunk in [1, 2, 64, 128, 4096, 1 << 32, u64::MAX] {
+            assert_eq!(digest(message, chunk), expected);
+        }
+    }
+    for chunk in 1..=200 {
+        assert_eq!(digest(long, chunk), vectors[2].1);
+    }
+}
+
+#[test]
+fn refused_digests() {
+    let updater = FirmwareUpdater::new(SIZES);
+    for (length, chunk, output) in [
+        (17, 1, 64),
+        (1 << 32, 1, 64),
+        (u64::MAX, 1, 64),
+        (3, 0, 64),
+        (0, 0, 64),
+        (3, 1, 63),
+        (3, 1, 65),
+        (0, 1, 0),
+    ] {
+        let mut out = vec![7; output];
+        let answer = updater.hash(&[1; 16], &[0xFF; 16], length, chunk, &mut out);
+        assert_eq!((answer, out), (Answer::Refused(Refusal::Range), vec![7; output]));
+    }
+    let mut out = [7; 64];
+    assert_eq!(updater.hash(&[1; 15], &[0xFF; 16], 3, 1, &mut out), Answer::Refused(Refusal::Area));
+    assert_eq!(updater.hash(&[1; 16], &[0xFF; 1], 3, 1, &mut out), Answer::Refused(Refusal::StateArea));
+    assert_eq!(out, [7; 64]);
 }
 
 #[test]

@@ -224,6 +224,56 @@ static void sums(void)
     CHECK(!memcmp(state, s, 16));
 }
 
+static uint8_t digest[65];
+
+static uint64_t hash(uint64_t length, uint64_t chunk, size_t out_length)
+{
+    memset(digest, '.', sizeof digest);
+    return eb_updater_hash(dfu, 16, state, 16, 4, 2, 16, 1, 255, length, chunk, digest, out_length);
+}
+
+static int untouched(void)
+{
+    for (size_t i = 0; i < sizeof digest; i++)
+        if (digest[i] != '.')
+            return 0;
+    return 1;
+}
+
+/* The digest: two of the standard's examples, in every chunk. */
+static void hashes(void)
+{
+    static const char none[] =
+        "\xCF\x83\xE1\x35\x7E\xEF\xB8\xBD\xF1\x54\x28\x50\xD6\x6D\x80\x07"
+        "\xD6\x20\xE4\x05\x0B\x57\x15\xDC\x83\xF4\xA9\x21\xD3\x6C\xE9\xCE"
+        "\x47\xD0\xD1\x3C\x5D\x85\xF2\xB0\xFF\x83\x18\xD2\x87\x7E\xEC\x2F"
+        "\x63\xB9\x31\xBD\x47\x41\x7A\x81\xA5\x38\x32\x7A\xF9\x27\xDA\x3E";
+    static const char abc[] =
+        "\xDD\xAF\x35\xA1\x93\x61\x7A\xBA\xCC\x41\x73\x49\xAE\x20\x41\x31"
+        "\x12\xE6\xFA\x4E\x89\xA9\x7E\xA2\x0A\x9E\xEE\xE6\x4B\x55\xD3\x9A"
+        "\x21\x92\x99\x2A\x27\x4F\xC1\xA8\x36\xBA\x3C\x23\xA3\xFE\xEB\xBD"
+        "\x45\x4D\x44\x23\x64\x3C\xE8\x0E\x2A\x9A\xC9\x4F\xA5\x4C\xA4\x9F";
+
+    memcpy(dfu, "abc and not more", 16);
+    memset(state, 0xF0, 16); /* a swap is pending, and that is not asked */
+    for (uint64_t chunk = 1; chunk <= 20; chunk++) {
+        CHECK(is(hash(3, chunk, 64), EB_DONE, EB_NO_STATE, 0) && !memcmp(digest, abc, 64) && digest[64] == '.');
+        CHECK(is(hash(0, chunk, 64), EB_DONE, EB_NO_STATE, 0) && !memcmp(digest, none, 64) && digest[64] == '.');
+    }
+    CHECK(is(hash(3, UINT64_C(1) << 32, 64), EB_DONE, EB_NO_STATE, 0) && !memcmp(digest, abc, 64));
+    CHECK(is(hash(3, UINT64_MAX, 64), EB_DONE, EB_NO_STATE, 0) && !memcmp(digest, abc, 64));
+    CHECK(is(hash(16, 5, 64), EB_DONE, EB_NO_STATE, 0) && memcmp(digest, abc, 64));
+
+    CHECK(is(hash(17, 1, 64), EB_RANGE, EB_NO_STATE, 0) && untouched());
+    CHECK(is(hash((UINT64_C(1) << 32) + 3, 1, 64), EB_RANGE, EB_NO_STATE, 0) && untouched());
+    CHECK(is(hash(3, 0, 64), EB_RANGE, EB_NO_STATE, 0) && untouched());
+    CHECK(is(hash(3, 1, 63), EB_RANGE, EB_NO_STATE, 0) && untouched());
+    CHECK(is(hash(3, 1, 65), EB_RANGE, EB_NO_STATE, 0) && untouched());
+    CHECK(is(eb_updater_hash(dfu, 15, state, 16, 4, 2, 16, 1, 255, 3, 1, digest, 64), EB_AREA, EB_NO_STATE, 0) && untouched());
+    CHECK(is(eb_updater_hash(dfu, 16, state, 16, 4, 2, 16, 1, 0, 3, 1, digest, 64), EB_DONE, EB_NO_STATE, 0));
+    CHECK(!memcmp(digest, abc, 64) && !memcmp(dfu, "abc and not more", 16) && state[15] == 0xF0);
+}
+
 /* Flash that erases to 00. */
 static uint64_t boot_zero(uint32_t budget)
 {
@@ -299,6 +349,7 @@ static void with_a_record(const struct eb_geometry *g, uint32_t boots, uint32_t 
     CHECK(eb_number(eb_updater_prepare_update_with(dfu_3, 96, state_64, 64, g, 9)) == updaters);
     CHECK(eb_number(eb_updater_write_firmware_with(dfu_3, 96, state_64, 64, g, 4, out_2, 2, &last, 9)) == updaters);
     CHECK(eb_number(eb_updater_read_dfu_with(dfu_3, 96, state_64, 64, g, 4, out_2, 2)) == updaters);
+    CHECK(eb_number(eb_updater_hash_with(dfu_3, 96, state_64, 64, g, 4, 2, digest, 64)) == updaters);
     CHECK(eb_number(eb_updater_check_and_mark_updated_with(dfu_3, 96, state_64, 64, g, 0, 0, 9)) == updaters);
     CHECK(eb_number(eb_updater_mark_booted_with(dfu_3, 96, state_64, 64, g, 9)) == updaters);
     CHECK(eb_number(eb_updater_mark_updated_with(dfu_3, 96, state_64, 64, g, 9)) == updaters);
@@ -352,6 +403,7 @@ int main(void)
     states();
     updates();
     sums();
+    hashes();
     zeros();
     records();
     names();

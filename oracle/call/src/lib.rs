@@ -24,6 +24,7 @@ pub enum Kind {
     PrepareUpdate = 12,
     StateFrom = 13,
     CheckAndMarkUpdated = 14,
+    Hash = 15,
 }
 
 /// Which areas and numbers a call takes.
@@ -40,7 +41,7 @@ pub enum Family {
 }
 
 impl Kind {
-    pub const ALL: [Kind; 15] = [
+    pub const ALL: [Kind; 16] = [
         Kind::PrepareBoot,
         Kind::ReadState,
         Kind::StateGetState,
@@ -56,6 +57,7 @@ impl Kind {
         Kind::PrepareUpdate,
         Kind::StateFrom,
         Kind::CheckAndMarkUpdated,
+        Kind::Hash,
     ];
 
     /// Those that are lent an area: all but State::from.
@@ -99,6 +101,7 @@ impl Kind {
             Kind::PrepareUpdate => "eb_updater_prepare_update",
             Kind::StateFrom => "eb_state_from",
             Kind::CheckAndMarkUpdated => "eb_updater_check_and_mark_updated",
+            Kind::Hash => "eb_updater_hash",
         }
     }
 
@@ -106,7 +109,12 @@ impl Kind {
     pub fn has_budget(self) -> bool {
         !matches!(
             self,
-            Kind::ReadState | Kind::StateGetState | Kind::UpdaterGetState | Kind::ReadDfu | Kind::StateFrom
+            Kind::ReadState
+                | Kind::StateGetState
+                | Kind::UpdaterGetState
+                | Kind::ReadDfu
+                | Kind::StateFrom
+                | Kind::Hash
         )
     }
 }
@@ -163,16 +171,18 @@ pub struct Call<'a> {
     pub budget: u32,
     pub offset: u64,
     pub data: &'a [u8],
-    /// how many bytes of DFU are summed
+    /// how many bytes of DFU are summed or hashed
     pub length: u64,
     /// the sum that they are to have
     pub crc: u32,
+    /// the pieces in which they are hashed
+    pub chunk: u64,
 }
 
 impl Call<'static> {
     /// A call with every other number 0 and no data.
     pub const fn of(kind: Kind, geometry: Geometry) -> Self {
-        Call { kind, geometry, budget: 0, offset: 0, data: &[], length: 0, crc: 0 }
+        Call { kind, geometry, budget: 0, offset: 0, data: &[], length: 0, crc: 0, chunk: 0 }
     }
 }
 

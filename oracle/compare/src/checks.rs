@@ -35,9 +35,8 @@ fn sums_for(dfu: &[u8], length: u64) -> Vec<u32> {
     all
 }
 
-/// Always the same: every length up to two past the area and far ones, every state, every budget, at both erase values. Then long
-/// areas.
-pub fn all_lengths(judge: &mut Judge, random: &mut Random) {
+/// Always the same: every length up to two past the area and far ones, every state, every budget, at both erase values.
+pub fn all_lengths(judge: &mut Judge, _: &mut Random) {
     for ev in ERASE_VALUES {
         let (geometry, mut bench) = published(ev);
         let side = Some(row([4, 2, 4, 2, 16, 1], ev));
@@ -58,11 +57,10 @@ pub fn all_lengths(judge: &mut Judge, random: &mut Random) {
             judge.sweep(side, &check(geometry, length, crc), &bench);
         }
     }
-    long(judge, random);
 }
 
 /// Nothing, a byte, a sector and the whole of 1 MiB, and of the longest area; the sum right and off by a bit.
-fn long(judge: &mut Judge, random: &mut Random) {
+pub fn long(judge: &mut Judge, random: &mut Random) {
     let side = row([4096, 4, 4096, 4, 4096, 4], ERASE_VALUES[0]);
     let geometry = geometry_of(side, 256);
     for ld in [1 << 20, 1 << 24] {

@@ -42,12 +42,13 @@ impl Judge {
     /// in `expected()`.
     ///
     /// Where `side` is given and document 01 admits the call, the original decides and the model is checked
-    /// beside it. Everywhere else the model decides, refusals and the boots of request No. 5 included.
+    /// beside it. Everywhere else the model decides: refusals, the boots of request No. 5, and digests whose last chunk ends past DFU.
     pub fn call(&mut self, side: Option<&dyn Original>, call: &Call, before: &Bench) -> u64 {
         self.expected.clone_from(before);
         let refusal = refusal_of(call, before);
-        // what the Rust doesn't know is left to the definition
-        let known = !Model::finishes_confirmation(call, &self.expected.lend());
+        // what the Rust doesn't know, or does otherwise, is left to the definition
+        let lent = self.expected.lend();
+        let known = !Model::finishes_confirmation(call, &lent) && !Model::hashes_past_the_end(call, &lent);
         let word = match side.filter(|_| known && matches!(refusal, 0 | BAD_STATE | WRONG_SUM)) {
             Some(side) => {
                 self.count_original(call);
@@ -276,7 +277,7 @@ fn print_call(call: &Call, before: &Bench) {
     println!(" erase value {}", g.ev);
     println!("  lengths La {} Ld {} Ls {}", before.active.len(), before.dfu.len(), before.state.len());
     println!("  budget {} offset {} last {}", call.budget, call.offset, before.last);
-    println!("  length {} sum {:08x}", call.length, call.crc);
+    println!("  length {} sum {:08x} chunk {}", call.length, call.crc, call.chunk);
     println!("  data   {}", Hex(call.data));
     if call.kind.family() == Family::Boot {
         println!("  active {}", Hex(&before.active));

@@ -2,6 +2,7 @@
 
 pub mod boots;
 pub mod checks;
+pub mod hashes;
 pub mod judge;
 pub mod lives;
 pub mod power;

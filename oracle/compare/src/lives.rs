@@ -45,6 +45,7 @@ fn step(judge: &mut Judge, random: &mut Random, side: &dyn Original, shape: &Sha
     };
     bench.out = match kind {
         Kind::ReadDfu => random.bytes(length),
+        Kind::Hash => random.bytes(64),
         _ => Vec::new(),
     };
     let cost = shape.page() / shape.geometry.b as usize + 2;
@@ -64,6 +65,7 @@ fn step(judge: &mut Judge, random: &mut Random, side: &dyn Original, shape: &Sha
         data: &data,
         length: length as u64,
         crc,
+        chunk: 1 + random.below(shape.ld) as u64,
         ..Call::of(kind, shape.geometry)
     };
     judge.call(Some(side), &call, bench);

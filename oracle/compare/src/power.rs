@@ -135,13 +135,14 @@ pub fn no_step_gained(judge: &mut Judge, random: &mut Random) {
     }
 }
 
-/// Two runs that differ only in their images answer alike; request No. 7's call, which reads them, is excepted.
+/// Two runs that differ only in their images answer alike; the calls of requests No. 7 and No. 8, which read them, are excepted.
 pub fn images_do_not_matter(judge: &mut Judge, random: &mut Random) {
     for (side, shape) in all_shapes() {
         if shape.la + shape.ld > 1500 {
             continue;
         }
-        for kind in Kind::WITH_AREAS.into_iter().filter(|kind| *kind != Kind::CheckAndMarkUpdated) {
+        let excepted = [Kind::CheckAndMarkUpdated, Kind::Hash];
+        for kind in Kind::WITH_AREAS.into_iter().filter(|kind| !excepted.contains(kind)) {
             let state = states::random_state(random, &shape);
             let first = shape.bench(random, state.clone());
             let second = shape.bench(random, state);

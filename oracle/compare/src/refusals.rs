@@ -20,6 +20,7 @@ struct Input {
     data: usize,
     out: usize,
     length: u64,
+    chunk: u64,
     /// whether the sum that is given is another than that of `length` bytes
     wrong_sum: bool,
     /// what word 0 holds; erased without one
@@ -38,6 +39,7 @@ enum Change {
     Data(usize),
     Out(usize),
     Length(u64),
+    Chunk(u64),
     WrongSum,
     Magic(Option<u8>),
 }
@@ -55,6 +57,7 @@ impl Input {
             Change::Data(value) => next.data = value,
             Change::Out(value) => next.out = value,
             Change::Length(value) => next.length = value,
+            Change::Chunk(value) => next.chunk = value,
             Change::WrongSum => next.wrong_sum = true,
             Change::Magic(value) => next.magic = value,
         }
@@ -122,12 +125,19 @@ impl Input {
             all.extend(far.map(Change::Offset));
             all.extend(far.map(|x| Change::Offset(x / w * w)));
         }
-        if kind == Kind::CheckAndMarkUpdated {
-            let end = self.ld as u64;
-            let far = [1 << 32, (1 << 32) + end, 1 << 63, u64::MAX];
+        let end = self.ld as u64;
+        let far = [1 << 32, (1 << 32) + end, 1 << 63, u64::MAX];
+        if matches!(kind, Kind::CheckAndMarkUpdated | Kind::Hash) {
             all.extend([0, 1, end / 2, end, end + 1, 2 * end].map(Change::Length));
             all.extend(far.map(Change::Length));
+        }
+        if kind == Kind::CheckAndMarkUpdated {
             all.push(Change::WrongSum);
+        }
+        if kind == Kind::Hash {
+            all.extend(around(self.out, 32).map(Change::Out));
+            all.extend([0, 1, end / 2, end, end + 1].map(Change::Chunk));
+            all.extend(far.map(Change::Chunk));
         }
         all
     }
@@ -167,6 +177,7 @@ const PLAIN: Input = Input {
     data: 0,
     out: 0,
     length: 0,
+    chunk: 0,
     wrong_sum: false,
     magic: None,
 };
@@ -200,6 +211,7 @@ impl Table {
             data: &self.data,
             length: input.length,
             crc,
+            chunk: input.chunk,
             ..Call::of(kind, input.geometry())
         };
         (call, bench)
@@ -223,8 +235,11 @@ pub fn small(judge: &mut Judge, _: &mut Random) {
             if kind == Kind::ReadDfu {
                 start.out = start.numbers[3] as usize;
             }
-            if kind == Kind::CheckAndMarkUpdated {
+            if matches!(kind, Kind::CheckAndMarkUpdated | Kind::Hash) {
                 start.length = start.ld as u64 - 1;
+            }
+            if kind == Kind::Hash {
+                (start.chunk, start.out) = (2, 64);
             }
             let changes = start.changes(kind);
             for budget in [0, u32::MAX] {
@@ -251,6 +266,9 @@ pub fn random(judge: &mut Judge, random: &mut Random) {
         input.data = random.below(9);
         input.out = random.below(9);
         input.length = random.below(9) as u64;
+        if kind == Kind::Hash {
+            (input.chunk, input.out) = (1 + random.below(9) as u64, 64);
+        }
         let changes = Input { ld: input.ld.max(9), ..input }.changes(kind);
         for _ in 0..1 + random.below(5) {
             input = input.with(random.pick(&changes));

@@ -62,7 +62,7 @@ impl Answers for Library {
         let firmware = FirmwareState { es, ws, ev };
         let sizes = Sizes { ed, wd, es, ws, ev };
         let Lent { active, dfu, state, out, last } = lent;
-        let Call { budget, offset, data, length, crc, .. } = *call;
+        let Call { budget, offset, data, length, crc, chunk, .. } = *call;
         match call.kind {
             Kind::PrepareBoot => eb_prepare_boot(active, dfu, state, all, budget),
             Kind::ReadState => eb_read_state(state, firmware),
@@ -85,6 +85,7 @@ impl Answers for Library {
             Kind::CheckAndMarkUpdated => {
                 eb_updater_check_and_mark_updated(dfu, state, sizes, length, crc, budget)
             }
+            Kind::Hash => eb_updater_hash(dfu, state, sizes, length, chunk, out),
         }
     }
 }

@@ -86,10 +86,27 @@ pub enum Wrong {
     WholeAreaRefused,
     MarksBeforeSum,
     WrongSumErasesState,
+    HashLastChunkFull,
+    HashChunk0Admitted,
+    HashLongChunkRefused,
+    HashShortOutputAdmitted,
+    HashLongOutputAdmitted,
+    HashOfWholeArea,
+    HashOneByteLess,
+    HashOneByteMore,
+    HashOfLastPiece,
+    HashWholeAreaRefused,
+    HashLengthTruncated,
+    HashChunkTruncated,
+    HashAsksState,
+    HashWordsTurned,
+    HashBlockEdgeWrong,
+    HashOfNoBytesZero,
+    HashRefusalClearsOutput,
 }
 
 impl Wrong {
-    pub const ALL: [(&'static str, Wrong); 73] = [
+    pub const ALL: [(&'static str, Wrong); 90] = [
         ("low-pages-first", Wrong::LowPagesFirst),
         ("revert-high-pages-first", Wrong::RevertHighPagesFirst),
         ("count-one-more", Wrong::CountOneMore),
@@ -165,6 +182,24 @@ impl Wrong {
         ("whole-area-refused", Wrong::WholeAreaRefused),
         ("marks-before-sum", Wrong::MarksBeforeSum),
         ("wrong-sum-erases-state", Wrong::WrongSumErasesState),
+        // request No. 8: which bytes are hashed, into what, and what is asked before
+        ("hash-last-chunk-full", Wrong::HashLastChunkFull),
+        ("hash-chunk-0-admitted", Wrong::HashChunk0Admitted),
+        ("hash-long-chunk-refused", Wrong::HashLongChunkRefused),
+        ("hash-short-output-admitted", Wrong::HashShortOutputAdmitted),
+        ("hash-long-output-admitted", Wrong::HashLongOutputAdmitted),
+        ("hash-of-whole-area", Wrong::HashOfWholeArea),
+        ("hash-one-byte-less", Wrong::HashOneByteLess),
+        ("hash-one-byte-more", Wrong::HashOneByteMore),
+        ("hash-of-last-piece", Wrong::HashOfLastPiece),
+        ("hash-whole-area-refused", Wrong::HashWholeAreaRefused),
+        ("hash-length-truncated", Wrong::HashLengthTruncated),
+        ("hash-chunk-truncated", Wrong::HashChunkTruncated),
+        ("hash-asks-state", Wrong::HashAsksState),
+        ("hash-words-turned", Wrong::HashWordsTurned),
+        ("hash-block-edge-wrong", Wrong::HashBlockEdgeWrong),
+        ("hash-of-no-bytes-zero", Wrong::HashOfNoBytesZero),
+        ("hash-refusal-clears-output", Wrong::HashRefusalClearsOutput),
     ];
 
     pub fn named(name: &str) -> Option<Wrong> {
@@ -267,6 +302,13 @@ impl Answers for Model {
                 run.erase(Area::Dfu, 0, run.dfu.len());
                 NO_STATE
             }),
+            Kind::Hash => {
+                let digest = self.digest(call, lent.dfu);
+                // 64 bytes both, or the model is told to err
+                let length = lent.out.len().min(digest.len());
+                lent.out[..length].copy_from_slice(&digest[..length]);
+                pack(DONE, NO_STATE, 0)
+            }
             Kind::StateFrom => unreachable!("answered above"),
         }
     }
@@ -282,6 +324,13 @@ impl Model {
         Model::RIGHT.state_of(run.word(0)) == SWAP && run.confirming(lent.active.len() / call.geometry.page())
     }
 
+    /// Whether this call hashes bytes whose last chunk ends past DFU: request No. 8, where the Rust reads it full. With nothing to
+    /// hash the Rust reads nothing.
+    pub fn hashes_past_the_end(call: &Call, lent: &Lent) -> bool {
+        let (length, chunk) = (u128::from(call.length), u128::from(call.chunk.max(1)));
+        call.kind == Kind::Hash && length.div_ceil(chunk) * chunk > lent.dfu.len() as u128
+    }
+
     /// The call as it came, but for a number that is wrongly taken for another.
     fn taken<'a>(&self, call: &Call<'a>) -> Call<'a> {
         let ev = match (self.wrong, call.geometry.ev) {
@@ -291,11 +340,16 @@ impl Model {
             (Wrong::EraseValue254Admitted, 254) => ONES,
             (_, ev) => ev,
         };
-        let length = match self.wrong {
-            Wrong::CheckLengthTruncated => call.length & 0xFFFF_FFFF,
+        let length = match (self.wrong, call.kind) {
+            (Wrong::CheckLengthTruncated, Kind::CheckAndMarkUpdated)
+            | (Wrong::HashLengthTruncated, Kind::Hash) => call.length & 0xFFFF_FFFF,
             _ => call.length,
         };
-        Call { length, ..with_erase_value(call, ev) }
+        let chunk = match self.wrong {
+            Wrong::HashChunkTruncated => call.chunk & 0xFFFF_FFFF,
+            _ => call.chunk,
+        };
+        Call { length, chunk, ..with_erase_value(call, ev) }
     }
 
     fn refusal(&self, call: &Call, lent: &Lent) -> u8 {
@@ -348,6 +402,32 @@ impl Model {
         }
     }
 
+    /// The digest of the bytes asked for, spoilt where the model is told to err there.
+    fn digest(&self, call: &Call, dfu: &[u8]) -> [u8; 64] {
+        let length = call.length as usize;
+        let pieces = call.length.div_ceil(call.chunk.max(1));
+        let bytes = match self.wrong {
+            Wrong::HashLastChunkFull => {
+                let full = u128::from(pieces) * u128::from(call.chunk);
+                &dfu[..full.min(dfu.len() as u128) as usize]
+            }
+            Wrong::HashOfWholeArea => dfu,
+            Wrong::HashOneByteLess => &dfu[..length.saturating_sub(1)],
+            Wrong::HashOneByteMore => &dfu[..dfu.len().min(length + 1)],
+            Wrong::HashOfLastPiece => &dfu[(pieces.saturating_sub(1) * call.chunk) as usize..length],
+            _ => &dfu[..length],
+        };
+        let mut digest = sums::sha512(bytes);
+        match self.wrong {
+            Wrong::HashWordsTurned => digest.chunks_mut(8).for_each(|word| word.reverse()),
+            // the shortest message whose length no longer fits in its last block
+            Wrong::HashBlockEdgeWrong if length % 128 == 112 => digest[0] ^= 1,
+            Wrong::HashOfNoBytesZero if length == 0 => digest = [0; 64],
+            _ => {}
+        }
+        digest
+    }
+
     /// What a refusal changes, where the model is told to err there.
     fn spoil_refused(&self, refused: u8, call: &Call, lent: Lent) {
         match self.wrong {
@@ -355,6 +435,7 @@ impl Model {
                 self.with_budget(call, lent, |run| run.mark(call, SWAP));
             }
             Wrong::WrongSumErasesState if refused == WRONG_SUM => lent.state.fill(call.geometry.erased()),
+            Wrong::HashRefusalClearsOutput if refused == 6 && call.kind == Kind::Hash => lent.out.fill(0),
             _ => {}
         }
     }
@@ -457,6 +538,26 @@ impl Model {
             {
                 0
             }
+            _ if call.kind == Kind::Hash => self.spoilt_refusal_of_hash(right, call, lent, lengths),
+            _ => right,
+        }
+    }
+
+    fn spoilt_refusal_of_hash(&self, right: u8, call: &Call, lent: &Lent, lengths: Lengths) -> u8 {
+        let word = call.geometry.ws as usize;
+        match self.wrong {
+            Wrong::HashChunk0Admitted if right == 6 && call.chunk == 0 => {
+                table::refusal(&Call { chunk: 1, ..*call }, &lengths, || false)
+            }
+            Wrong::HashShortOutputAdmitted if right == 6 && lengths.out == 63 => {
+                table::refusal(call, &Lengths { out: 64, ..lengths }, || false)
+            }
+            Wrong::HashLongOutputAdmitted if right == 6 && lengths.out == 65 => {
+                table::refusal(call, &Lengths { out: 64, ..lengths }, || false)
+            }
+            Wrong::HashLongChunkRefused if right == 0 && call.chunk > lengths.dfu as u64 => 6,
+            Wrong::HashWholeAreaRefused if right == 0 && call.length == lengths.dfu as u64 => 6,
+            Wrong::HashAsksState if right == 0 && self.state_of(&lent.state[..word]) == SWAP => 5,
             _ => right,
         }
     }

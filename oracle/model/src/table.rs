@@ -9,7 +9,7 @@ pub struct Lengths {
     pub active: usize,
     pub dfu: usize,
     pub state: usize,
-    /// the output buffer of read_dfu
+    /// the output buffer of read_dfu and hash
     pub out: usize,
 }
 
@@ -163,6 +163,7 @@ fn row_6(f: &Facts, call: &Call, out: usize) -> bool {
             uneven(offset, f.wd) || uneven(length, f.wd) || offset + length > f.ld
         }
         Kind::CheckAndMarkUpdated => u128::from(call.length) > f.ld,
+        Kind::Hash => u128::from(call.length) > f.ld || call.chunk == 0 || out != 64,
         _ => false,
     }
 }
@@ -205,9 +206,10 @@ mod tests {
         {
             assert_eq!(boot(Geometry { ev, ..SHEET }, LENGTHS), number);
             for kind in Kind::ALL {
-                let call = Call::of(kind, Geometry { ev, ..SHEET });
+                let call = Call { chunk: 1, ..Call::of(kind, Geometry { ev, ..SHEET }) };
                 let number = if kind == Kind::StateFrom { 0 } else { number };
-                assert_eq!(refusal(&call, &LENGTHS, || false), number);
+                let out = if kind == Kind::Hash { 64 } else { 0 };
+                assert_eq!(refusal(&call, &Lengths { out, ..LENGTHS }, || false), number);
             }
         }
         assert_eq!(boot(Geometry { ev: 0, b: 3, ..SHEET }, LENGTHS), 2);
@@ -227,6 +229,19 @@ mod tests {
         let sum = |crc| Call { length: 9, crc, ..Call::of(Kind::CheckAndMarkUpdated, SHEET) };
         assert!(!wrong_sum(&sum(0xCBF4_3926), b"123456789 and more"));
         assert!(wrong_sum(&sum(0xCBF4_3927), b"123456789 and more"));
+    }
+
+    /// The state isn't asked, and a chunk may be longer than the area.
+    #[test]
+    fn a_length_to_hash() {
+        let hash = |length, chunk, out| {
+            let call = Call { length, chunk, ..Call::of(Kind::Hash, SHEET) };
+            refusal(&call, &Lengths { out, ..LENGTHS }, || true)
+        };
+        assert_eq!((hash(0, 1, 64), hash(16, u64::MAX, 64)), (0, 0));
+        assert_eq!((hash(17, 1, 64), hash(1 << 32, 1, 64)), (6, 6));
+        assert_eq!((hash(16, 0, 64), hash(0, 0, 64)), (6, 6));
+        assert_eq!((hash(16, 1, 63), hash(16, 1, 65), hash(0, 1, 0)), (6, 6, 6));
     }
 
     #[test]

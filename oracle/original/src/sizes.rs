@@ -5,6 +5,7 @@
 //! does what 01 refuses.
 
 use call::{Answers, BAD_STATE, CUT, Call, DONE, Kind, Lent, NO_SECTOR, NO_STATE, Original, WRONG_SUM, pack};
+use digest::Digest;
 use embedded_storage::nor_flash::NorFlashErrorKind;
 
 use crate::mem_flash::{MemFlash, Mode, Operation, Supply};
@@ -144,6 +145,7 @@ fn run_updater<const ED: usize, const WD: usize, const ES: usize, const WS: usiz
         Kind::ReadDfu => updater.read_dfu(call.offset as u32, out).map(|()| None),
         Kind::WriteFirmware => updater.write_firmware(call.offset as usize, call.data).map(|()| None),
         Kind::PrepareUpdate => updater.prepare_update().map(|_| None),
+        Kind::Hash => hash(updater, call, out).map(|()| None),
         other => unreachable!("{other:?} is no updater call"),
     };
     from_updater(result, supply, call)
@@ -163,6 +165,33 @@ fn check_and_mark_updated<const ED: usize, const WD: usize, const ES: usize, con
     }
     updater.mark_updated()?;
     Ok(true)
+}
+
+/// SHA-512 of what it was fed.
+struct Sha512(Vec<u8>);
+
+impl Digest for Sha512 {
+    fn new() -> Self {
+        Sha512(Vec::new())
+    }
+
+    fn update(&mut self, data: impl AsRef<[u8]>) {
+        self.0.extend_from_slice(data.as_ref());
+    }
+
+    fn finalize(self) -> Vec<u8> {
+        sums::sha512(&self.0).to_vec()
+    }
+}
+
+fn hash<const ED: usize, const WD: usize, const ES: usize, const WS: usize>(
+    updater: &mut Updater<ED, WD, ES, WS>,
+    call: &Call,
+    out: &mut [u8],
+) -> Result<(), FirmwareUpdaterError> {
+    // a chunk beyond the longest area is only asked with nothing to read, and its buffer need not be had
+    let mut chunk = vec![0xA5; call.chunk.min(1 << 24) as usize];
+    updater.hash::<Sha512>(call.length as u32, &mut chunk, out)
 }
 
 /// Brings the updater's memory to a value by its own code: one write into that sector of a flash that

@@ -76,6 +76,7 @@ struct Brought<'a> {
     last: Option<&'a mut u32>,
     length: u64,
     crc: u32,
+    chunk: u64,
     budget: u32,
     /// in the data's place
     bytes: Bytes<'a>,
@@ -92,6 +93,7 @@ impl Brought<'_> {
             data,
             length: self.length,
             crc: self.crc,
+            chunk: self.chunk,
             ..Call::of(kind, self.sizes)
         };
         let mut none = NO_SECTOR;

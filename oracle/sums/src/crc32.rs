@@ -21,7 +21,7 @@ pub fn crc32(message: &[u8]) -> u32 {
 #[cfg(test)]
 mod tests {
     use super::*;
-    use crate::python::{answers, messages};
+    use crate::programs::{answers, messages};
 
     #[test]
     fn the_published_values() {

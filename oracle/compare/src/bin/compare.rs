@@ -8,18 +8,20 @@ use std::time::Instant;
 
 use compare::judge::Judge;
 use compare::random::Random;
-use compare::{boots, checks, lives, power, refusals, replay, sheet, updaters};
+use compare::{boots, checks, hashes, lives, power, refusals, replay, sheet, updaters};
 
 const USAGE: &str = "usage: compare [--seed N] | compare --replay FILE | compare --check-replay FILE";
 
 type Section = fn(&mut Judge, &mut Random);
 
 /// The whole comparison, part by part; the long parts stand at the end, so that most faults show early.
-const SECTIONS: [(&str, Section); 22] = [
+const SECTIONS: [(&str, Section); 26] = [
     ("State::from", updaters::state_from),
     ("check_and_mark_updated, all lengths", checks::all_lengths),
     ("check_and_mark_updated, bits and bursts", checks::bursts),
     ("check_and_mark_updated, compiled geometries", checks::compiled_rows),
+    ("hash, all lengths, chunks and outputs", hashes::all_lengths),
+    ("hash, compiled geometries", hashes::compiled_rows),
     ("smallest state areas, marks", updaters::exhaustive_marks),
     ("compiled geometries, plain calls", updaters::plain_calls),
     ("write_firmware, all offsets and lengths", updaters::exhaustive_writes),
@@ -29,6 +31,8 @@ const SECTIONS: [(&str, Section); 22] = [
     ("geometries at run time, other calls", updaters::runtime_shapes),
     ("refusals, one and two at a time", refusals::small),
     ("refusals, several at once", refusals::random),
+    ("check_and_mark_updated, long areas", checks::long),
+    ("hash, long areas", hashes::long),
     ("refusals, long areas", refusals::large),
     ("lives of a device", lives::lives),
     ("images don't matter", power::images_do_not_matter),

@@ -334,17 +334,27 @@ impl Digest for Fed {
     }
 }
 
-/// hash isn't carried over yet.
 fn hash_past_the_end() {
-    println!("\nhash reads whole chunks");
-    for (length, chunk, output) in [(3, 2, 3), (4, 2, 4), (3, 4, 3), (3, 0, 3), (3, 1, 2)] {
+    println!("\nhash reads whole chunks, past the end if need be (request No. 8: only the length asked)");
+    let inputs: [(&[u8], u32, usize, usize); 8] = [
+        (&[1], 1, 2, 1),
+        (&[1, 2, 3], 3, 2, 3),
+        (&[1, 2, 3], 3, 4, 3),
+        (&[1, 2, 3, 4], 3, 2, 3),
+        (&[1, 2, 3], 0, 4, 0),
+        (&[1, 2, 3], 4, 2, 4),
+        (&[1, 2, 3], 3, 0, 3),
+        (&[1, 2, 3], 3, 1, 2),
+    ];
+    for (dfu, length, chunk, output) in inputs {
         let supply = Supply::new(0);
-        let (mut dfu, mut state, mut word) = ([1, 2, 3], [0xFF; 2], [0]);
+        let (mut dfu, mut state, mut word) = (dfu.to_vec(), [0xFF; 2], [0]);
+        let note = format!("DFU {}, length {length}, chunk {chunk}, output {output}", Hex(&dfu));
         let config = FirmwareUpdaterConfig {
             dfu: MemFlash::<1, 1>::new(&mut dfu, &supply),
             state: MemFlash::<1, 1>::new(&mut state, &supply),
         };
-        tell(&format!("Ld 3, length {length}, chunk {chunk}, output {output}"), || {
+        tell(&note, || {
             let mut updater = BlockingFirmwareUpdater::new(config, &mut word);
             let mut out = vec![0; output];
             let answer = updater.hash::<Fed>(length, &mut vec![0; chunk], &mut out);
