@@ -69,7 +69,7 @@ impl Constants {
     fn get() -> &'static Constants {
         static FOUND: OnceLock<Constants> = OnceLock::new();
         FOUND.get_or_init(|| {
-            let prime = |n: &u32| (2..*n).all(|d| n % d != 0);
+            let prime = |n: &u32| (2..*n).all(|d| !n.is_multiple_of(d));
             let primes: Vec<u32> = (2..).filter(prime).take(80).collect();
             Constants {
                 rounds: std::array::from_fn(|i| behind_the_point(primes[i], 3)),
