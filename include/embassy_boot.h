@@ -89,7 +89,7 @@ enum {
     EB_CUT = 7,
 
     /* A refusal like 1 to 6, and the last of them to be asked. eb_updater_check_and_mark_updated: the bytes have another sum. */
-    EB_WRONG_SUM = 8
+    EB_CHECKSUM = 8
 };
 
 /* The state. Only a call that is done carries one, and only eb_prepare_boot, eb_read_state and the get_state calls do. */
@@ -104,7 +104,7 @@ enum {
 /* Names, for messages: those of docs/RULES.md and of the Rust wrapper. */
 static inline const char *eb_number_name(uint32_t number)
 {
-    static const char *const names[] = {"Done", "Limit", "Page", "Area", "StateArea", "BadState", "Range", "Cut", "WrongSum"};
+    static const char *const names[] = {"Done", "Limit", "Page", "Area", "StateArea", "BadState", "Range", "Cut", "Checksum"};
     return number < sizeof names / sizeof *names ? names[number] : "?";
 }
 static inline const char *eb_state_name(uint32_t state)

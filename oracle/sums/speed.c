@@ -74,7 +74,7 @@ __attribute__((noinline)) static uint32_t table_loop(const uint8_t *bytes, size_
 static int has_sum(uint32_t crc)
 {
     uint64_t result = eb_updater_check_and_mark_updated(image, SUMMED, state, sizeof state, 4096, 4, 4096, 4, 255, SUMMED, crc, 0);
-    must(eb_number(result) == EB_CUT || eb_number(result) == EB_WRONG_SUM, "the library refuses the measured call");
+    must(eb_number(result) == EB_CUT || eb_number(result) == EB_CHECKSUM, "the library refuses the measured call");
     return eb_number(result) == EB_CUT;
 }
 

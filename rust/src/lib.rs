@@ -89,7 +89,7 @@ pub enum Refusal {
     /// end, or its offset or length is no multiple of `wd`.
     Range,
     /// 8, asked last: in check_and_mark_updated the bytes have another sum.
-    WrongSum,
+    Checksum,
 }
 
 /// The answer of a call.
@@ -161,7 +161,7 @@ impl Refusal {
             Refusal::StateArea => 4,
             Refusal::BadState => 5,
             Refusal::Range => 6,
-            Refusal::WrongSum => 8,
+            Refusal::Checksum => 8,
         }
     }
 }
@@ -185,7 +185,7 @@ impl fmt::Display for Refusal {
             Refusal::Range => {
                 "the bytes asked for aren't in DFU, or not on its write units, or a digest's chunk or output doesn't serve"
             }
-            Refusal::WrongSum => "the bytes have another sum",
+            Refusal::Checksum => "the bytes have another sum",
         };
         write!(f, "refused with {}: {why}", self.number())
     }
@@ -273,7 +273,7 @@ fn answer(result: u64) -> Answer {
         5 => Answer::Refused(Refusal::BadState),
         6 => Answer::Refused(Refusal::Range),
         7 => Answer::Cut(count),
-        8 => Answer::Refused(Refusal::WrongSum),
+        8 => Answer::Refused(Refusal::Checksum),
         number => unreachable!("the library has no number {number}"),
     }
 }
@@ -445,7 +445,7 @@ impl FirmwareUpdater {
 
     /// [`mark_updated`](Self::mark_updated), if the first `length` bytes of DFU have this CRC-32: the reflected one of IEEE 802.3, which
     /// zlib has too; of no bytes it is 0. [Refused](Refusal::BadState) while a swap is pending, where DFU is
-    /// [shorter](Refusal::Range), and for [another sum](Refusal::WrongSum).
+    /// [shorter](Refusal::Range), and for [another sum](Refusal::Checksum).
     ///
     /// ```
     /// use embassy_boot_rattle::{Answer, ERASES_TO_ONES, FOREVER, FirmwareUpdater, Refusal, Sizes};
@@ -453,7 +453,7 @@ impl FirmwareUpdater {
     /// let updater = FirmwareUpdater::new(Sizes { ed: 4, wd: 2, es: 16, ws: 1, ev: ERASES_TO_ONES });
     /// let (dfu, mut state) = (*b"123456789...", [0xFF; 16]);
     /// let other = updater.check_and_mark_updated(&dfu, &mut state, 8, 0xCBF4_3926, FOREVER);
-    /// assert_eq!(other, Answer::Refused(Refusal::WrongSum));
+    /// assert_eq!(other, Answer::Refused(Refusal::Checksum));
     /// assert_eq!(updater.check_and_mark_updated(&dfu, &mut state, 9, 0xCBF4_3926, FOREVER), Answer::Done(3));
     /// ```
     pub fn check_and_mark_updated(

@@ -269,7 +269,7 @@ fn sums() {
             (answer, state.clone())
         };
         for bit in 0..32 {
-            assert_eq!(check(crc ^ 1 << bit, FOREVER), (Answer::Refused(Refusal::WrongSum), erased.clone()));
+            assert_eq!(check(crc ^ 1 << bit, FOREVER), (Answer::Refused(Refusal::Checksum), erased.clone()));
         }
         assert_eq!(check(crc, 0), (Answer::Cut(0), erased.clone()));
         assert_eq!(check(crc, 1).0, Answer::Cut(1));
@@ -381,7 +381,7 @@ fn answers_as_results_and_texts() {
         (Refusal::StateArea, 4),
         (Refusal::BadState, 5),
         (Refusal::Range, 6),
-        (Refusal::WrongSum, 8),
+        (Refusal::Checksum, 8),
     ];
     for (refusal, number) in refusals {
         let answer = Answer::Refused(refusal);

@@ -194,7 +194,7 @@ static void sums(void)
     for (size_t i = 0; i < sizeof rows / sizeof *rows; i++) {
         memset(state, 0xFF, 16);
         for (int bit = 0; bit < 32; bit++)
-            CHECK(is(check_and_mark(rows[i].length, rows[i].crc ^ UINT32_C(1) << bit, 9), EB_WRONG_SUM, EB_NO_STATE, 0));
+            CHECK(is(check_and_mark(rows[i].length, rows[i].crc ^ UINT32_C(1) << bit, 9), EB_CHECKSUM, EB_NO_STATE, 0));
         memset(s, 0xFF, 16);
         CHECK(!memcmp(state, s, 16));
         CHECK(is(check_and_mark(rows[i].length, rows[i].crc, 0), EB_CUT, EB_NO_STATE, 0));
@@ -391,7 +391,7 @@ static void records(void)
 static void names(void)
 {
     CHECK(!strcmp(eb_number_name(EB_DONE), "Done") && !strcmp(eb_number_name(EB_STATE_AREA), "StateArea"));
-    CHECK(!strcmp(eb_number_name(EB_CUT), "Cut") && !strcmp(eb_number_name(EB_WRONG_SUM), "WrongSum"));
+    CHECK(!strcmp(eb_number_name(EB_CUT), "Cut") && !strcmp(eb_number_name(EB_CHECKSUM), "Checksum"));
     CHECK(!strcmp(eb_number_name(9), "?") && !strcmp(eb_number_name(1000), "?"));
     CHECK(!strcmp(eb_state_name(EB_BOOT), "Boot") && !strcmp(eb_state_name(EB_DFU_DETACH), "DfuDetach"));
     CHECK(!strcmp(eb_state_name(EB_NO_STATE), "none"));

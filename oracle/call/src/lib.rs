@@ -261,7 +261,7 @@ pub const NO_STATE: u8 = 255;
 pub const DONE: u8 = 0;
 pub const BAD_STATE: u8 = 5;
 pub const CUT: u8 = 7;
-pub const WRONG_SUM: u8 = 8;
+pub const CHECKSUM: u8 = 8;
 
 /// number * 2^40 + state * 2^32 + operations
 pub fn pack(number: u8, state: u8, operations: u32) -> u64 {

@@ -91,7 +91,7 @@ pub fn bursts(judge: &mut Judge, random: &mut Random) {
     let mut turn = |pattern: u64| {
         bench.dfu = bytes(image ^ pattern);
         let word = judge.call(Some(side), &call, &bench);
-        assert_eq!(word, call::pack(call::WRONG_SUM, call::NO_STATE, 0), "a burst that the sum doesn't show");
+        assert_eq!(word, call::pack(call::CHECKSUM, call::NO_STATE, 0), "a burst that the sum doesn't show");
     };
     for first in 0..BITS {
         turn(1 << first);

@@ -4,7 +4,7 @@ use std::panic::{AssertUnwindSafe, catch_unwind};
 use std::process::exit;
 
 use call::{
-    Answers, BAD_STATE, Bench, CUT, Call, Family, Hex, Kind, NO_STATE, Original, WRONG_SUM, Word, ZEROS,
+    Answers, BAD_STATE, Bench, CHECKSUM, CUT, Call, Family, Hex, Kind, NO_STATE, Original, Word, ZEROS,
     number_of, operations_of, pack,
 };
 use library::GuardedLibrary;
@@ -49,7 +49,7 @@ impl Judge {
         // what the Rust doesn't know, or does otherwise, is left to the definition
         let lent = self.expected.lend();
         let known = !Model::finishes_confirmation(call, &lent) && !Model::hashes_past_the_end(call, &lent);
-        let word = match side.filter(|_| known && matches!(refusal, 0 | BAD_STATE | WRONG_SUM)) {
+        let word = match side.filter(|_| known && matches!(refusal, 0 | BAD_STATE | CHECKSUM)) {
             Some(side) => {
                 self.count_original(call);
                 let word = self.ask_original(side, call, before);
@@ -265,7 +265,7 @@ pub fn refusal_of(call: &Call, before: &Bench) -> u8 {
     };
     let word = call.geometry.ws as usize;
     match table::refusal(call, &lengths, || before.state[..word].iter().all(|byte| *byte == 0xF0)) {
-        0 if table::wrong_sum(call, &before.dfu) => WRONG_SUM,
+        0 if table::wrong_sum(call, &before.dfu) => CHECKSUM,
         lower => lower,
     }
 }

@@ -4,7 +4,7 @@
 //! The model can be told to err in one named way (`Wrong`): that is how the comparison itself is tested.
 
 use call::{
-    Answers, CUT, Call, DONE, Geometry, Kind, Lent, NO_SECTOR, NO_STATE, ONES, WRONG_SUM, ZEROS, pack,
+    Answers, CHECKSUM, CUT, Call, DONE, Geometry, Kind, Lent, NO_SECTOR, NO_STATE, ONES, ZEROS, pack,
 };
 
 use crate::table::{self, Lengths};
@@ -361,7 +361,7 @@ impl Model {
         };
         let word = call.geometry.ws as usize;
         let right = match table::refusal(call, &lengths, || self.state_of(&lent.state[..word]) == SWAP) {
-            0 if self.wrong_sum(call, lent.dfu) => WRONG_SUM,
+            0 if self.wrong_sum(call, lent.dfu) => CHECKSUM,
             lower => lower,
         };
         match self.wrong {
@@ -431,10 +431,10 @@ impl Model {
     /// What a refusal changes, where the model is told to err there.
     fn spoil_refused(&self, refused: u8, call: &Call, lent: Lent) {
         match self.wrong {
-            Wrong::MarksBeforeSum if refused == WRONG_SUM => {
+            Wrong::MarksBeforeSum if refused == CHECKSUM => {
                 self.with_budget(call, lent, |run| run.mark(call, SWAP));
             }
-            Wrong::WrongSumErasesState if refused == WRONG_SUM => lent.state.fill(call.geometry.erased()),
+            Wrong::WrongSumErasesState if refused == CHECKSUM => lent.state.fill(call.geometry.erased()),
             Wrong::HashRefusalClearsOutput if refused == 6 && call.kind == Kind::Hash => lent.out.fill(0),
             _ => {}
         }
@@ -500,19 +500,19 @@ impl Model {
             }
             Wrong::SumBeforeRange if right == 6 && call.kind == Kind::CheckAndMarkUpdated => {
                 // of the bytes that there are
-                if sums::crc32(lent.dfu) != call.crc { WRONG_SUM } else { right }
+                if sums::crc32(lent.dfu) != call.crc { CHECKSUM } else { right }
             }
             Wrong::SumBeforeState | Wrong::CheckSkipsState
                 if right == 5 && call.kind == Kind::CheckAndMarkUpdated =>
             {
                 match table::refusal(call, &lengths, || false) {
-                    0 if self.wrong_sum(call, lent.dfu) => WRONG_SUM,
+                    0 if self.wrong_sum(call, lent.dfu) => CHECKSUM,
                     later if self.wrong == Wrong::CheckSkipsState => later,
                     _ => right,
                 }
             }
             Wrong::WholeAreaRefused
-                if matches!(right, 0 | WRONG_SUM)
+                if matches!(right, 0 | CHECKSUM)
                     && call.kind == Kind::CheckAndMarkUpdated
                     && call.length == lengths.dfu as u64 =>
             {

@@ -4,7 +4,7 @@
 //! Only admitted inputs may be asked here (no refusal of document 01 but 5); on others the text panics or
 //! does what 01 refuses.
 
-use call::{Answers, BAD_STATE, CUT, Call, DONE, Kind, Lent, NO_SECTOR, NO_STATE, Original, WRONG_SUM, pack};
+use call::{Answers, BAD_STATE, CHECKSUM, CUT, Call, DONE, Kind, Lent, NO_SECTOR, NO_STATE, Original, pack};
 use digest::Digest;
 use embedded_storage::nor_flash::NorFlashErrorKind;
 
@@ -135,7 +135,7 @@ fn run_updater<const ED: usize, const WD: usize, const ES: usize, const WS: usiz
 ) -> u64 {
     let result = match call.kind {
         Kind::CheckAndMarkUpdated => match check_and_mark_updated(updater, call) {
-            Ok(false) => return pack(WRONG_SUM, NO_STATE, 0),
+            Ok(false) => return pack(CHECKSUM, NO_STATE, 0),
             marked => marked.map(|_| None),
         },
         Kind::UpdaterGetState => updater.get_state().map(Some),

@@ -6,7 +6,7 @@ use std::process::exit;
 use std::sync::atomic::{AtomicU64, Ordering};
 use std::thread;
 
-use call::{Answers, Bench, Call, Geometry, Kind, NO_STATE, WRONG_SUM, pack};
+use call::{Answers, Bench, CHECKSUM, Call, Geometry, Kind, NO_STATE, pack};
 use library::Library;
 
 const IMAGE: u32 = 0x2FC7_2C0B;
@@ -19,7 +19,7 @@ fn share(from: u64, step: u64, end: u64) -> Option<u64> {
     let mut bench = Bench { dfu: vec![0; 4], state: vec![0xFF; 2], ..Bench::default() };
     (from..end).step_by(step as usize).find(|pattern| {
         bench.dfu.copy_from_slice(&(IMAGE ^ *pattern as u32).to_le_bytes());
-        Library.answer(&call, bench.lend()) != pack(WRONG_SUM, NO_STATE, 0)
+        Library.answer(&call, bench.lend()) != pack(CHECKSUM, NO_STATE, 0)
     })
 }
 
