@@ -1,5 +1,5 @@
 -- What hash answers, and what its output holds then: by the verdict of rows 1 to 6. Assumes nothing.
-use mathlib.Core.Path.{_≡_, refl, sym, ap, _∙_}
+use mathlib.Core.Path.{_≡_, refl, ap}
 use mathlib.Core.Bool.{true, false}
 use mathlib.Core.List.{List, []}
 use Prim.Native.Nat.{ℕ, _^_, _≤_, _<_}
@@ -14,7 +14,7 @@ use Rattle.geometry.specs.declared.Refusal.{Refusal}
 use Rattle.geometry.specs.declared.Verdict.{Verdict}
 use Rattle.geometry.specs.declared.Verdict.the-variants as verdicts
 use Rattle.geometry.specs.Refusals.{number, verdict, updaterRefusal, mostLength}
-use Rattle.geometry.proofs.Rows.{updater-early, updater-admits}
+use Rattle.geometry.proofs.Rows.{updater-admits}
 use Rattle.geometry.proofs.Tests.{number-some}
 use Rattle.mem_flash.specs.Run.{flash}
 use Rattle.rules.specs.declared.Answer.the-variants as answers

@@ -1,5 +1,5 @@
 -- `hash`: the verdict's refusal, or the digest of the bytes that `stream` added. Assumes nothing.
-use mathlib.Core.Path.{refl, sym, _∙_}
+use mathlib.Core.Path.{_∙_}
 use borrow.Author.Needs.{needs}
 use Rattle.firmware_hash.proofs.Answers.{hash-refused, asked, counted, hash-done}
 use Rattle.firmware_hash.proofs.hash.Statement.{statement}
