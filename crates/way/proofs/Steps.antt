@@ -68,7 +68,7 @@ near-refl g c f =
     }
 
 -- the source of a step is another area than its target
-source-placed : (a : Area) (xs : List ℕ) (f : Flash) → Image a → sourceOf a (placed a xs f) ≡ sourceOf a f
+pub source-placed : (a : Area) (xs : List ℕ) (f : Flash) → Image a → sourceOf a (placed a xs f) ≡ sourceOf a f
 unfolding placed change sourceOf
 source-placed active xs f i = refl
 source-placed dfu xs f i = refl

@@ -73,7 +73,7 @@ near-reads {g} {N} {f = f} c now i near r =
       settled = ap (confirming (g .state) N) st ∙ r .settled;
     }
 
-close-reads : (g : Geometry) (N S m : ℕ) (f : Flash) (cs : List Copy) (h now : Flash) → Way g N S m f cs h → Close g cs f now
+pub close-reads : (g : Geometry) (N S m : ℕ) (f : Flash) (cs : List Copy) (h now : Flash) → Way g N S m f cs h → Close g cs f now
     → Reads g N S m now
 close-reads g N S m f [] h now w e = subst (Reads g N S m) (sym e) (w .0)
 close-reads g N S m f (c ∷ cs) h now w near = near-reads c now (w .1 .fits .image) near (w .1 .reads)
