@@ -1,10 +1,11 @@
--- The two step readers: what each makes of how its step is read, and what it hands over. Serves `to_dfu` and `to_active`. Assumes nothing.
+-- The two step readers: what each makes of how its step is read, what it hands over, and how far they come together. Serves `to_dfu`,
+-- `to_active` and `read_swap`. Assumes nothing.
 use mathlib.Core.Path.{_≡_, refl, sym, ap, ap₂, _∙_, subst, subst₂}
-use mathlib.Core.Bool.{true, false}
-use mathlib.Core.List.{List, [], _∷_}
+use mathlib.Core.Bool.{Bool, true, false}
+use mathlib.Core.List.{List, _∷_}
 use Prim.Native.Nat.{ℕ, zero, suc, _+_, _-_, _*_, _^_, _≤_, _<_}
 use native.Mathlib.Nat.{div-le-self, div-mul-le-self, le-mul-of-pos-right}
-use native.Mathlib.Decide.{decLt}
+use native.Mathlib.Decide.{ℕ-discrete}
 use native.Mathlib.Omega.{arith}
 use lib.Dec.{eqb}
 use borrow.Author.Tests.{eq-eqb, ne-eqb}
@@ -15,9 +16,11 @@ use Rattle.log_steps.specs.declared.Entry.{Entry}
 use Rattle.log_steps.specs.declared.Step.{Step}
 use Rattle.log_steps.specs.declared.Found.{Found}
 use Rattle.log_steps.specs.declared.Found.the-variants.{Ends, Wrong, Marked}
+use Rattle.log_steps.specs.declared.Reached.{Reached}
+use Rattle.log_steps.specs.declared.Reached.the-variants as reached
 use Rattle.log_steps.specs.Entries.{areaNumber}
 use Rattle.log_steps.specs.Steps.{stepFor, stepOf, Small}
-use Rattle.log_steps.specs.Reader.{entriesFrom, Reading, readStep, behind, reads, Tells, Fits}
+use Rattle.log_steps.specs.Reader.{entriesFrom, Reading, readStep, behind, reads, Tells, InLog, Fits, Reaches}
 use Rattle.log_steps.proofs.Reading.{entries-none, entries-next}
 
 -- ---- numbers
@@ -59,15 +62,14 @@ module _ {g : Geometry} {p left i : ℕ} (f : Fits g p left i) where
 -- ---- the steps
 
 -- with no page left, a log that goes on is wrong
-pub none-left : (g : Geometry) (log : List ℕ) (e count left i : ℕ) → e ≤ count → left ≡ 0
-    → eqb e count ≡ reads g (swapFrom left i) (entriesFrom log e (count - e))
-unfolding swapFrom reads
-none-left g log e count left i h z =
-    go (decLt e count) ∙ ap (λ (n : ℕ). reads g (swapFrom n i) (entriesFrom log e (count - e))) (sym z)
-  where
-    go : Dec (e < count) → eqb e count ≡ reads g [] (entriesFrom log e (count - e))
-    go (yes l) = ne-eqb e count (λ x. omega arith) ∙ ap (reads g []) (sym (entries-next log e count l))
-    go (no l) = eq-eqb e count (omega (arith, l)) ∙ ap (reads g []) (sym (entries-none log e count (omega (arith, l))))
+module _ (g : Geometry) (log : List ℕ) (e count left i : ℕ) (z : left ≡ 0) where
+  pub none-ends : e ≡ count → reads g (swapFrom left i) (entriesFrom log e (count - e)) ≡ true
+  unfolding swapFrom reads
+  none-ends h = ap₂ (λ (n : ℕ) (es : List Entry). reads g (swapFrom n i) es) z (entries-none log e count (omega arith))
+
+  pub none-wrong : e ≤ count → (e ≡ count → ⊥) → reads g (swapFrom left i) (entriesFrom log e (count - e)) ≡ false
+  unfolding swapFrom reads
+  none-wrong l h = ap₂ (λ (n : ℕ) (es : List Entry). reads g (swapFrom n i) es) z (entries-next log e count (omega (arith, h)))
 
 -- with some, the last of them goes to DFU, then to active, and the pages below it are left
 swap-turn : (left i : ℕ) → (left ≡ 0 → ⊥)
@@ -104,13 +106,13 @@ module _ (g : Geometry) (c : Copy) (cs : List Copy) (log : List ℕ) (e count : 
   told : (f : Found) → r ≡ f → Tells log e count (readStep (stepOf g c) 0 entries) f
   told f d = subst₂ (λ (x : Step) (y : Found). Tells log e count (readStep x 0 entries) y) q d t
 
-  pub step-ends : r ≡ Ends → true ≡ reads g (c ∷ cs) entries
+  pub step-ends : r ≡ Ends → reads g (c ∷ cs) entries ≡ true
   unfolding reads behind
-  step-ends d = ap (behind (λ rest. reads g cs rest)) (sym (told Ends d))
+  step-ends d = ap (behind (λ rest. reads g cs rest)) (told Ends d)
 
-  pub step-wrong : r ≡ Wrong → false ≡ reads g (c ∷ cs) entries
+  pub step-wrong : r ≡ Wrong → reads g (c ∷ cs) entries ≡ false
   unfolding reads behind
-  step-wrong d = ap (behind (λ rest. reads g cs rest)) (sym (told Wrong d))
+  step-wrong d = ap (behind (λ rest. reads g cs rest)) (told Wrong d)
 
   -- what the other reader makes of the rest is what this one makes of the whole
   pub step-marked : {n : ℕ} → r ≡ Marked n → reads g cs (entriesFrom log n (count - n)) ≡ reads g (c ∷ cs) entries
@@ -119,5 +121,55 @@ module _ (g : Geometry) (c : Copy) (cs : List Copy) (log : List ℕ) (e count : 
 
 -- the same from the table of the pages that are left
 pub swap-reads : (g : Geometry) (left i : ℕ) (es : List Entry) → (left ≡ 0 → ⊥)
-    → reads g (toDfu i (left - 1) left ∷ toActive (i + 1) (left - 1) (left - 1) ∷ swapFrom (left - 1) (i + 1 + 1)) es ≡ reads g (swapFrom left i) es
-swap-reads g left i es h = ap (λ (cs : List Copy). reads g cs es) (swap-turn left i h)
+    → reads g (swapFrom left i) es ≡ reads g (toDfu i (left - 1) left ∷ toActive (i + 1) (left - 1) (left - 1) ∷ swapFrom (left - 1) (i + 1 + 1)) es
+swap-reads g left i es h = ap (λ (cs : List Copy). reads g cs es) (sym (swap-turn left i h))
+
+-- ---- how far the readers come
+
+-- where one comes from entry n on, behind a step that was read, the other comes from entry e on
+pub reach-on : (g : Geometry) (p : ℕ) (log : List ℕ) (e n count deep d : ℕ) (whole part : Bool) (r : Reached) → e < n → part ≡ whole
+    → Reaches g p log n count d part r → Reaches g p log e count deep whole r
+reach-on g p log e n count deep d whole part reached.Ends l q h = sym q ∙ h
+reach-on g p log e n count deep d whole part reached.Wrong l q h = sym q ∙ h
+reach-on g p log e n count deep d whole part (reached.On a left i) l q h =
+    record {
+      in-log = h .in-log;
+      fits = h .fits;
+      reads = h .reads ∙ q;
+      back = omega (arith, h .back);
+      later = λ z. omega (arith, h .back);
+    }
+
+-- the loop over them: what is left is the whole
+pub record Going (g : Geometry) (p : ℕ) (log : List ℕ) (count : ℕ) (whole : Bool) (e left i : ℕ) : Type 0 where
+  pub in-log : InLog log e count
+  pub fits : Fits g p left i
+  pub reads : reads g (swapFrom left i) (entriesFrom log e (count - e)) ≡ whole
+
+module _ {g : Geometry} {p : ℕ} {log : List ℕ} {count : ℕ} {whole : Bool} {e left i : ℕ} (s : Going g p log count whole e left i)
+    (deep : ℕ) (r : Reached) (h : Reaches g p log e count deep (reads g (swapFrom left i) (entriesFrom log e (count - e))) r) where
+  pub going-ends : r ≡ reached.Ends → true ≡ whole
+  going-ends q = sym (subst (Reaches g p log e count deep _) q h) ∙ s .reads
+
+  pub going-wrong : r ≡ reached.Wrong → false ≡ whole
+  going-wrong q = sym (subst (Reaches g p log e count deep _) q h) ∙ s .reads
+
+  pub going-on : {a b c : ℕ} → r ≡ reached.On a b c → Going g p log count whole a b c
+  going-on q =
+      let t = subst (Reaches g p log e count deep _) q h in
+      record { in-log = t .in-log; fits = t .fits; reads = t .reads ∙ s .reads }
+
+  pub going-later : {a b c : ℕ} → r ≡ reached.On a b c → (deep ≡ 0 → ⊥) → e < a
+  going-later q z = subst (Reaches g p log e count deep _) q h .later z
+
+-- with no page left
+pub going-done : {g : Geometry} {p : ℕ} {log : List ℕ} {count : ℕ} {whole : Bool} {e left i : ℕ} → Going g p log count whole e left i → left ≤ 0
+    → eqb e count ≡ whole
+going-done {g} {log = log} {count} {e = e} {left} {i} s l = go (ℕ-discrete e count) ∙ s .reads
+  where
+    none : left ≡ 0
+    none = omega (arith, l)
+
+    go : Dec (e ≡ count) → eqb e count ≡ reads g (swapFrom left i) (entriesFrom log e (count - e))
+    go (yes h) = eq-eqb e count h ∙ sym (none-ends g log e count left i none h)
+    go (no h) = ne-eqb e count h ∙ sym (none-wrong g log e count left i none (s .in-log .place) h)

@@ -10,11 +10,13 @@ use Rattle.state.specs.Choice.{pick}
 use Rattle.geometry.specs.declared.Geometry.{Geometry}
 use Rattle.geometry.specs.Geometry.{page}
 use Rattle.geometry.specs.Admitted.{Numbers}
-use Rattle.rules.specs.Steps.{Copy}
+use Rattle.rules.specs.Steps.{Copy, swapFrom}
 use Rattle.log_steps.specs.declared.Entry.{Entry}
 use Rattle.log_steps.specs.declared.Step.{Step}
 use Rattle.log_steps.specs.declared.Found.{Found}
 use Rattle.log_steps.specs.declared.Found.the-variants.{Ends, Wrong, Marked}
+use Rattle.log_steps.specs.declared.Reached.{Reached}
+use Rattle.log_steps.specs.declared.Reached.the-variants as reached
 use Rattle.log_steps.specs.Entries.{entry}
 use Rattle.log_steps.specs.Steps.{stepOf, nth, size}
 
@@ -83,3 +85,18 @@ pub record Fits (g : Geometry) (p left i : ℕ) : Type 0 where
   pub numbers : Numbers g
   pub images : left * p + p ≤ 2 ^ 32
   pub marks : (2 + (i + 2 * left)) * g .state .ws ≤ 2 ^ 32
+
+-- what is left to read from an entry on, with so many pages left from step i on: it is `whole`, and there is less of it where the readers
+-- had a page to read
+pub record Rest (g : Geometry) (p : ℕ) (log : List ℕ) (e count deep : ℕ) (whole : Bool) (entry left i : ℕ) : Type 0 where
+  pub in-log : InLog log entry count
+  pub fits : Fits g p left i
+  pub reads : reads g (swapFrom left i) (entriesFrom log entry (count - entry)) ≡ whole
+  pub back : e ≤ entry
+  pub later : (deep ≡ 0 → ⊥) → e < entry
+
+-- how far the readers came from entry e on, in a log that is to be read as `whole`
+abbrev pub Reaches : Geometry → ℕ → List ℕ → ℕ → ℕ → ℕ → Bool → Reached → Type 0
+Reaches g p log e count deep whole reached.Ends = whole ≡ true
+Reaches g p log e count deep whole reached.Wrong = whole ≡ false
+Reaches g p log e count deep whole (reached.On entry left i) = Rest g p log e count deep whole entry left i

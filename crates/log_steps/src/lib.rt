@@ -6,7 +6,7 @@ ghost use Prim.Native.Nat.{_+_, _-_, _*_, _^_, _≤_, _<_};
 ghost use lib.ListN.{length};
 ghost use Rattle.rules.specs.Steps.{swapFrom, toActive};
 ghost use Rattle.log_steps.specs.Steps.{stepFor, nth, Small};
-ghost use Rattle.log_steps.specs.Reader.{same, entryAt, entriesFrom, tried, readStep, reads, Tells, InLog, Fits};
+ghost use Rattle.log_steps.specs.Reader.{same, entryAt, entriesFrom, tried, readStep, reads, Tells, InLog, Fits, Reaches};
 use geometry::Geometry;
 
 // An entry: kind 0 is an erase, 1 a write; area 0 is active, 1 DFU, 2 the state area.
@@ -35,6 +35,17 @@ pub enum Found {
     Wrong,
     Marked(usize),
 }
+
+// How far the two readers come together: the log ends, it is wrong, or it is to be read on from an entry, with so many pages left and a
+// next step.
+pub enum Reached {
+    Ends,
+    Wrong,
+    On(usize, usize, usize),
+}
+
+// The readers return after so many pages, so that the stack does not grow with the log.
+const DEEPEST: usize = 16;
 
 fn wide(n: u32) -> usize
     ensures { λ r. ⌜ r ≡ n ⌝ }
@@ -147,8 +158,9 @@ fn read_step(log: &[u32], from: usize, count: usize, s: Step) -> Found
     Found::Ends
 }
 
-// Reads on from entry e where so many pages are left to swap, and step i is next: the last of them goes to DFU, one page further.
-pub fn to_dfu(
+// Reads on from entry e where so many pages are left to swap, and step i is next: the last of them goes to DFU, one page further. The two
+// readers call each other for so many pages at most.
+fn to_dfu(
     log: &[u32],
     e: usize,
     count: usize,
@@ -156,17 +168,24 @@ pub fn to_dfu(
     page: usize,
     left: usize,
     i: usize,
-) -> bool
+    deep: usize,
+) -> Reached
     requires { ⌜ InLog (now log) e count × Fits g page left i ⌝ }
-    ensures { λ r. ⌜ r ≡ reads g (swapFrom left i) (entriesFrom (now (log .entry)) e (count - e)) ⌝ }
+    ensures { λ r. ⌜ Reaches g page (now (log .entry)) e count deep (reads g (swapFrom left i) (entriesFrom (now (log .entry)) e (count - e))) r ⌝ }
 {
     if left == 0 {
-        return e == count;
+        if e == count {
+            return Reached::Ends;
+        }
+        return Reached::Wrong;
+    }
+    if deep == 0 {
+        return Reached::On(e, left, i);
     }
     match read_step(log, e, count, step_for(g, page, 1, g.ed, left, i)) {
-        Found::Ends => true,
-        Found::Wrong => false,
-        Found::Marked(next) => to_active(log, next, count, g, page, left - 1, i + 1),
+        Found::Ends => Reached::Ends,
+        Found::Wrong => Reached::Wrong,
+        Found::Marked(next) => to_active(log, next, count, g, page, left - 1, i + 1, deep - 1),
     }
 }
 
@@ -179,13 +198,37 @@ fn to_active(
     page: usize,
     left: usize,
     i: usize,
-) -> bool
+    deep: usize,
+) -> Reached
     requires { ⌜ InLog (now log) e count × Fits g page left (i + 1) ⌝ }
-    ensures { λ r. ⌜ r ≡ reads g (toActive i left left ∷ swapFrom left (i + 1)) (entriesFrom (now (log .entry)) e (count - e)) ⌝ }
+    ensures { λ r. ⌜ Reaches g page (now (log .entry)) e count deep
+        (reads g (toActive i left left ∷ swapFrom left (i + 1)) (entriesFrom (now (log .entry)) e (count - e))) r ⌝ }
 {
     match read_step(log, e, count, step_for(g, page, 0, g.ea, left, i)) {
-        Found::Ends => true,
-        Found::Wrong => false,
-        Found::Marked(next) => to_dfu(log, next, count, g, page, left, i + 1),
+        Found::Ends => Reached::Ends,
+        Found::Wrong => Reached::Wrong,
+        Found::Marked(next) => to_dfu(log, next, count, g, page, left, i + 1, deep),
     }
+}
+
+// Reads a log of so many entries from the swap's first step on.
+pub fn read_swap(log: &[u32], count: usize, g: Geometry, page: usize, pages: usize) -> bool
+    requires { ⌜ InLog (now log) 0 count × Fits g page pages 0 ⌝ }
+    ensures { λ r. ⌜ r ≡ reads g (swapFrom pages 0) (entriesFrom (now (log .entry)) 0 (count - 0)) ⌝ }
+{
+    let mut e = 0;
+    let mut left = pages;
+    let mut i = 0;
+    while 0 < left {
+        match to_dfu(log, e, count, g, page, left, i, DEEPEST) {
+            Reached::Ends => return true,
+            Reached::Wrong => return false,
+            Reached::On(entry, more, step) => {
+                e = entry;
+                left = more;
+                i = step;
+            }
+        }
+    }
+    e == count
 }

@@ -29,7 +29,7 @@ pub fn judge(log: &[u32], g: Geometry, la: usize, ld: usize, ls: usize) -> LogAn
         return LogAnswer::No;
     }
     let page = g.page_size();
-    if log_steps::to_dfu(log, 0, log.len() / 4, g, page, la / page, 0) {
+    if log_steps::read_swap(log, log.len() / 4, g, page, la / page) {
         return LogAnswer::Yes;
     }
     LogAnswer::No

@@ -1,11 +1,12 @@
 -- The two step readers, a cycle of calls: each calls the other behind a mark, with fewer entries left. Assumes nothing.
-use mathlib.Core.Path.{_∙_}
+use mathlib.Core.Path.{refl, sym, _∙_}
 use Prim.Native.Nat.{ℕ, _-_, _<_}
 use native.Mathlib.Omega.{arith}
+use denote.Ref.{now}
 use borrow.Author.Needs.{needs}
 use borrow.Fn.Kinds.{In}
 use borrow.Fn.PlainCycle.{Measures, is, falls, and}
-use Rattle.log_steps.proofs.Turns.{small, step-fits, fits-less, none-left, dfu-step, active-step, marked-later, step-ends, step-wrong, step-marked, swap-reads}
+use Rattle.log_steps.proofs.Turns.{small, step-fits, fits-less, none-ends, none-wrong, dfu-step, active-step, marked-later, step-ends, step-wrong, step-marked, swap-reads, reach-on}
 use Rattle.log_steps.proofs.read_step.Reads as read-step
 use Rattle.log_steps.proofs.step_for.Reads as step-for
 use Rattle.log_steps.proofs.to_active.Reads as to-active
@@ -85,18 +86,30 @@ to-active-returns-2 t c =
 to-active-returns-3 : (t : ℕ) → to-active-lts.Need-returns-3 (active-claims t) (to-active-at t) to-active.Post
 to-active-returns-3 t c =
     let read = c .before .before .before .before in
-    c .to-dfu .ensures
-    ∙ step-marked _ _ _ _ _ _ (active-step _ _ _ (read .before .before .before .pre .1 .1 .page) (read .before .step-for .ensures)) _
-    (read .read-step .ensures) (c .before .before .next .given .1)
+    let next = c .before .before .next .given .1 in
+    let a = read .before .before .before .args in
+    reach-on (a .g) (a .page) (now (a .log)) (a .e) _ (a .count) (a .deep) (a .deep) _ _ (c .to-dfu .result)
+    (marked-later _ _ _ _ _ (read .read-step .ensures) next .0)
+    (step-marked _ _ _ _ _ _ (active-step _ _ _ (read .before .before .before .pre .1 .1 .page) (read .before .step-for .ensures)) _
+    (read .read-step .ensures) next)
+    (c .to-dfu .ensures)
 
 to-dfu-returns : (t : ℕ) → to-dfu-lts.Need-returns (dfu-claims t) (to-dfu-at t) to-dfu.Post
-to-dfu-returns t c = none-left _ _ _ _ _ _ (c .before .before .pre .1 .0 .place) (c .if1 .taken)
+to-dfu-returns t c = none-ends _ _ _ _ _ _ (c .before .if1 .taken) (c .if2 .taken)
+
+to-dfu-returns-2 : (t : ℕ) → to-dfu-lts.Need-returns-2 (dfu-claims t) (to-dfu-at t) to-dfu.Post
+to-dfu-returns-2 t c = none-wrong _ _ _ _ _ _ (c .before .if1 .taken) (c .before .before .before .pre .1 .0 .place) (c .if2 .left)
+
+to-dfu-returns-3 : (t : ℕ) → to-dfu-lts.Need-returns-3 (dfu-claims t) (to-dfu-at t) to-dfu.Post
+to-dfu-returns-3 t c =
+    let p = c .before .before .before .pre .1 in
+    record { in-log = p .0; fits = p .1; reads = refl; back = omega arith; later = λ n. absurd (n (c .if3 .taken)) }
 
 to-dfu-step-for-requires : (t : ℕ) → to-dfu-lts.Need-step-for-requires (dfu-claims t) (to-dfu-at t) to-dfu.Post
 to-dfu-step-for-requires t c κs = search needs
 
 to-dfu-read-step-requires : (t : ℕ) → to-dfu-lts.Need-read-step-requires (dfu-claims t) (to-dfu-at t) to-dfu.Post
-to-dfu-read-step-requires t c κs = let p = c .before .before .before .pre .1 in (small (p .1) _ _ _ (c .step-for .ensures), p .0)
+to-dfu-read-step-requires t c κs = let p = c .before .before .before .before .pre .1 in (small (p .1) _ _ _ (c .step-for .ensures), p .0)
 
 to-dfu-enum-told : (t : ℕ) → to-dfu-lts.Need-enum-told (dfu-claims t) (to-dfu-at t) to-dfu.Post
 to-dfu-enum-told t c = c .match .keys1
@@ -111,39 +124,51 @@ to-dfu-sub-to-active : (t : ℕ) → to-dfu-lts.Need-sub-to-active (dfu-claims t
 to-dfu-sub-to-active t c = search needs
 
 to-dfu-add-to-active : (t : ℕ) → to-dfu-lts.Need-add-to-active (dfu-claims t) (to-dfu-at t) to-dfu.Post
-to-dfu-add-to-active t c = record { fits = step-fits (c .before .before .before .before .before .before .before .pre .1 .1) }
+to-dfu-add-to-active t c = record { fits = step-fits (c .before .before .before .before .before .before .before .before .pre .1 .1) }
+
+to-dfu-sub-to-active-2 : (t : ℕ) → to-dfu-lts.Need-sub-to-active-2 (dfu-claims t) (to-dfu-at t) to-dfu.Post
+to-dfu-sub-to-active-2 t c = search needs
 
 to-dfu-to-active-requires : (t : ℕ) → to-dfu-lts.Need-to-active-requires (dfu-claims t) (to-dfu-at t) to-dfu.Post
 to-dfu-to-active-requires t c κs =
     let read = c .before .before .before in
-    let p = read .before .before .before .before .pre in
+    let p = read .before .before .before .before .before .pre in
     let m = marked-later _ _ _ _ _ (read .read-step .ensures) (c .before .next .given .1) in
-    (omega (arith, p .0, m .0, m .1), (record { place = m .1; long = p .1 .0 .long }, fits-less (p .1 .1) (read .before .before .if1 .left)))
-
-to-dfu-returns-2 : (t : ℕ) → to-dfu-lts.Need-returns-2 (dfu-claims t) (to-dfu-at t) to-dfu.Post
-to-dfu-returns-2 t c =
-    let read = c .before .before in
-    step-ends _ _ _ _ _ _ (dfu-step _ _ _ (read .before .before .before .before .pre .1 .1 .page) (read .before .step-for .ensures)) _
-    (read .read-step .ensures) (c .enum-told .given .1)
-    ∙ swap-reads _ _ _ _ (read .before .before .if1 .left)
-
-to-dfu-returns-3 : (t : ℕ) → to-dfu-lts.Need-returns-3 (dfu-claims t) (to-dfu-at t) to-dfu.Post
-to-dfu-returns-3 t c =
-    let read = c .before .before in
-    step-wrong _ _ _ _ _ _ (dfu-step _ _ _ (read .before .before .before .before .pre .1 .1 .page) (read .before .step-for .ensures)) _
-    (read .read-step .ensures) (c .enum-told2 .given .1)
-    ∙ swap-reads _ _ _ _ (read .before .before .if1 .left)
+    (omega (arith, p .0, m .0, m .1), (record { place = m .1; long = p .1 .0 .long }, fits-less (p .1 .1) (read .before .before .before .if1 .left)))
 
 to-dfu-returns-4 : (t : ℕ) → to-dfu-lts.Need-returns-4 (dfu-claims t) (to-dfu-at t) to-dfu.Post
 to-dfu-returns-4 t c =
+    let read = c .before .before in
+    swap-reads _ _ _ _ (read .before .before .before .if1 .left)
+    ∙ step-ends _ _ _ _ _ _ (dfu-step _ _ _ (read .before .before .before .before .before .pre .1 .1 .page) (read .before .step-for .ensures)) _
+    (read .read-step .ensures) (c .enum-told .given .1)
+
+to-dfu-returns-5 : (t : ℕ) → to-dfu-lts.Need-returns-5 (dfu-claims t) (to-dfu-at t) to-dfu.Post
+to-dfu-returns-5 t c =
+    let read = c .before .before in
+    swap-reads _ _ _ _ (read .before .before .before .if1 .left)
+    ∙ step-wrong _ _ _ _ _ _ (dfu-step _ _ _ (read .before .before .before .before .before .pre .1 .1 .page) (read .before .step-for .ensures)) _
+    (read .read-step .ensures) (c .enum-told2 .given .1)
+
+to-dfu-returns-6 : (t : ℕ) → to-dfu-lts.Need-returns-6 (dfu-claims t) (to-dfu-at t) to-dfu.Post
+to-dfu-returns-6 t c =
     let read = c .before .before .before .before in
-    c .to-active .ensures
-    ∙ step-marked _ _ _ _ _ _ (dfu-step _ _ _ (read .before .before .before .before .pre .1 .1 .page) (read .before .step-for .ensures)) _
-    (read .read-step .ensures) (c .before .before .next .given .1)
-    ∙ swap-reads _ _ _ _ (read .before .before .if1 .left)
+    let next = c .before .before .next .given .1 in
+    let a = read .before .before .before .before .before .args in
+    reach-on (a .g) (a .page) (now (a .log)) (a .e) _ (a .count) (a .deep) (a .deep - 1) _ _ (c .to-active .result)
+    (marked-later _ _ _ _ _ (read .read-step .ensures) next .0)
+    (step-marked _ _ _ _ _ _ (dfu-step _ _ _ (read .before .before .before .before .before .pre .1 .1 .page) (read .before .step-for .ensures)) _
+    (read .read-step .ensures) next
+    ∙ sym (swap-reads _ _ _ _ (read .before .before .before .if1 .left)))
+    (c .to-active .ensures)
 
 pub +to-active+to-dfu-spec : {M : Type 1} → statement M
-+to-active+to-dfu-spec = close μ-to-active μ-to-dfu (λ t. to-active-lts.spec (active-claims t)
++to-active+to-dfu-spec =
+    close
+    μ-to-active
+    μ-to-dfu
+    (λ t. to-active-lts.spec
+    (active-claims t)
     (to-active-at t)
     to-active.Post
     (to-active-step-for-requires t)
@@ -156,10 +181,13 @@ pub +to-active+to-dfu-spec : {M : Type 1} → statement M
     (to-active-returns t)
     (to-active-returns-2 t)
     (to-active-returns-3 t))
-    λ t. to-dfu-lts.spec (dfu-claims t)
+    λ t. to-dfu-lts.spec
+    (dfu-claims t)
     (to-dfu-at t)
     to-dfu.Post
     (to-dfu-returns t)
+    (to-dfu-returns-2 t)
+    (to-dfu-returns-3 t)
     (to-dfu-step-for-requires t)
     (to-dfu-read-step-requires t)
     (to-dfu-enum-told t)
@@ -167,7 +195,8 @@ pub +to-active+to-dfu-spec : {M : Type 1} → statement M
     (to-dfu-enum-known-next t)
     (to-dfu-sub-to-active t)
     (to-dfu-add-to-active t)
+    (to-dfu-sub-to-active-2 t)
     (to-dfu-to-active-requires t)
-    (to-dfu-returns-2 t)
-    (to-dfu-returns-3 t)
     (to-dfu-returns-4 t)
+    (to-dfu-returns-5 t)
+    (to-dfu-returns-6 t)

@@ -28,14 +28,14 @@ returns-3 c =
 page-size-requires : tie.Need-page-size-requires
 page-size-requires c κs = tt
 
-div-to-dfu : tie.Need-div-to-dfu
-div-to-dfu c =
+div-read-swap : tie.Need-div-read-swap
+div-read-swap c =
     let v = c .before .before .before .before .before in
     let e = none _ _ _ _ (v .before .before .args .log .now) _ (v .boot-verdict .ensures) (c .before .before .before .enum-told .given .1) in
     omega (arith, c .page-size .ensures, page-some (admitted _ _ _ _ e .numbers))
 
-to-dfu-requires : tie.Need-to-dfu-requires
-to-dfu-requires c κs =
+read-swap-requires : tie.Need-read-swap-requires
+read-swap-requires c κs =
     let v = c .before .before .before .before .before in
     let e = none _ _ _ _ (v .before .before .args .log .now) _ (v .boot-verdict .ensures) (c .before .before .before .enum-told .given .1) in
     (record { place = omega arith; long = omega arith }, reader-fits _ _ _ _ e (c .page-size .ensures))
@@ -45,14 +45,14 @@ returns-4 c =
     let page = c .before .before in
     let long = page .before .before in
     judged-yes _ _ _ _ _ _ (long .before .before .before .boot-verdict .ensures) (long .before .enum-told .given .1) (long .if1 .left)
-    (page .before .if2 .left) (reader-tells _ _ _ (page .page-size .ensures) (c .before .to-dfu .ensures) (c .if3 .taken))
+    (page .before .if2 .left) (reader-tells _ _ _ (page .page-size .ensures) (c .before .read-swap .ensures) (c .if3 .taken))
 
 returns-5 : tie.Need-returns-5
 returns-5 c =
     let page = c .before .before in
     let long = page .before .before in
     judged-no _ _ _ _ _ _ (long .before .before .before .boot-verdict .ensures) (long .before .enum-told .given .1) (long .if1 .left)
-    (page .before .if2 .left) (reader-tells _ _ _ (page .page-size .ensures) (c .before .to-dfu .ensures) (c .if3 .left))
+    (page .before .if2 .left) (reader-tells _ _ _ (page .page-size .ensures) (c .before .read-swap .ensures) (c .if3 .left))
 
 pub judge-spec : {M : Type 1} → statement M
 judge-spec =
@@ -65,7 +65,7 @@ judge-spec =
     returns-2
     returns-3
     page-size-requires
-    div-to-dfu
-    to-dfu-requires
+    div-read-swap
+    read-swap-requires
     returns-4
     returns-5)
