@@ -35,7 +35,7 @@ module _ (s : Step) (j : ℕ) where
   nth-mark h l = rw (le-ltb j (s .units) h, le-ltb (j - s .units) (s .chunks) l)
 
 -- its numbers, with those of the geometry as the code has them
-pub step-for : (g : Geometry) (p area target i : ℕ) {unit chunk word : ℕ} {u : ℕ} → unit ≡ u → chunk ≡ g .b → word ≡ g .state .ws
+pub step-for : (g : Geometry) (p area target mark : ℕ) {unit chunk word : ℕ} {u : ℕ} → unit ≡ u → chunk ≡ g .b → word ≡ g .state .ws
     → record {
       area = area;
       start = target * p;
@@ -43,11 +43,11 @@ pub step-for : (g : Geometry) (p area target i : ℕ) {unit chunk word : ℕ} {u
       unit = unit;
       chunks = p / chunk;
       chunk = chunk;
-      mark = (2 + i) * word;
+      mark = mark * word;
       word = word;
-    } ≡ stepFor g p area u target i
+    } ≡ stepFor g p area u target mark
 unfolding stepFor
-step-for g p area target i a b c = cc
+step-for g p area target mark a b c = cc
 
 -- ---- an entry compared
 

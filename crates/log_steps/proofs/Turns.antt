@@ -38,7 +38,7 @@ module _ {g : Geometry} {p left i : ℕ} (f : Fits g p left i) where
         writes = omega (arith, f .images, div-mul-le-self p (g .b));
       })
 
-  pub step-fits : i + 1 < 2 ^ 64
+  pub step-fits : 2 + i < 2 ^ 64
   step-fits = omega (arith, f .marks, le-mul-of-pos-right (2 + (i + 2 * left)) (f .numbers .ws .some))
 
   -- one page less, and two marks more
@@ -84,13 +84,13 @@ swap-turn (suc k) i h =
     ∙ ap₂ (λ (n m : ℕ). toDfu i k n ∷ toActive (i + 1) k k ∷ swapFrom k m) a b
 
 -- what a step of the code is in the table
-pub dfu-step : (g : Geometry) (left i : ℕ) {p : ℕ} {s : Step} → p ≡ page g → s ≡ stepFor g p 1 (g .ed) left i → s ≡ stepOf g (toDfu i (left - 1) left)
+pub dfu-step : (g : Geometry) (left i : ℕ) {p : ℕ} {s : Step} → p ≡ page g → s ≡ stepFor g p 1 (g .ed) left (2 + i) → s ≡ stepOf g (toDfu i (left - 1) left)
 unfolding stepOf toDfu areaNumber unitOf
-dfu-step g left i e d = d ∙ ap (λ (n : ℕ). stepFor g n 1 (g .ed) left i) e
+dfu-step g left i e d = d ∙ ap (λ (n : ℕ). stepFor g n 1 (g .ed) left (2 + i)) e
 
-pub active-step : (g : Geometry) (left i : ℕ) {p : ℕ} {s : Step} → p ≡ page g → s ≡ stepFor g p 0 (g .ea) left i → s ≡ stepOf g (toActive i left left)
+pub active-step : (g : Geometry) (left i : ℕ) {p : ℕ} {s : Step} → p ≡ page g → s ≡ stepFor g p 0 (g .ea) left (2 + i) → s ≡ stepOf g (toActive i left left)
 unfolding stepOf toActive areaNumber unitOf
-active-step g left i e d = d ∙ ap (λ (n : ℕ). stepFor g n 0 (g .ea) left i) e
+active-step g left i e d = d ∙ ap (λ (n : ℕ). stepFor g n 0 (g .ea) left (2 + i)) e
 
 -- ---- a step read
 

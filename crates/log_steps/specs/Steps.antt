@@ -10,9 +10,9 @@ use Rattle.log_steps.specs.declared.Entry.{Entry}
 use Rattle.log_steps.specs.declared.Step.{Step}
 use Rattle.log_steps.specs.Entries.{entry, areaNumber}
 
--- step i fills page `target` of an area, of pages of p bytes and erase units of `unit` bytes
+-- a step fills page `target` of an area, of pages of p bytes and erase units of `unit` bytes, and marks a word
 unfoldable pub stepFor : Geometry → ℕ → ℕ → ℕ → ℕ → ℕ → Step
-stepFor g p area unit target i =
+stepFor g p area unit target mark =
     record {
       area = area;
       start = target * p;
@@ -20,13 +20,13 @@ stepFor g p area unit target i =
       unit = unit;
       chunks = p / g .b;
       chunk = g .b;
-      mark = (2 + i) * g .state .ws;
+      mark = mark * g .state .ws;
       word = g .state .ws;
     }
 
 -- a copy of the table of steps
 unfoldable pub stepOf : Geometry → Copy → Step
-stepOf g c = stepFor g (page g) (areaNumber (c .to)) (unitOf g (c .to)) (c .target) (c .mark)
+stepOf g c = stepFor g (page g) (areaNumber (c .to)) (unitOf g (c .to)) (c .target) (2 + c .mark)
 
 -- entry j: the erases of the page's units, then its chunks, then the mark
 unfoldable pub nth : Step → ℕ → Entry

@@ -8,6 +8,8 @@ ghost use Rattle.rules.specs.Steps.{swapFrom, toActive};
 ghost use Rattle.log_steps.specs.Steps.{stepFor, nth, Small};
 ghost use Rattle.log_steps.specs.Reader.{same, entryAt, entriesFrom, tried, readStep, reads, Tells, InLog, Fits, Reaches};
 use geometry::Geometry;
+use geometry::Page;
+use geometry::Word;
 
 // An entry: kind 0 is an erase, 1 a write; area 0 is active, 1 DFU, 2 the state area.
 pub struct Entry {
@@ -53,10 +55,10 @@ fn wide(n: u32) -> usize
     n as usize
 }
 
-// Step i fills a page of an area that has erase units of so many bytes.
-fn step_for(g: Geometry, page: usize, area: u32, unit: u32, target: usize, i: usize) -> Step
-    requires { ⌜ (0 < unit) × (0 < g .b) × (0 < g .state .ws) × (target * page < 2 ^ 33) × ((2 + i) * g .state .ws < 2 ^ 33) ⌝ }
-    ensures { λ r. ⌜ r ≡ stepFor g page area unit target i ⌝ }
+// A step fills a page of an area that has erase units of so many bytes, and marks a word.
+fn step_for(g: Geometry, page: usize, area: u32, unit: u32, target: Page, mark: Word) -> Step
+    requires { ⌜ (0 < unit) × (0 < g .b) × (target .0 * page < 2 ^ 33) × (mark .0 * g .state .ws < 2 ^ 33) ⌝ }
+    ensures { λ r. ⌜ r ≡ stepFor g page area unit (target .0) (mark .0) ⌝ }
 {
     let z = g.state;
     let unit = wide(unit);
@@ -64,12 +66,12 @@ fn step_for(g: Geometry, page: usize, area: u32, unit: u32, target: usize, i: us
     let word = wide(z.ws);
     Step {
         area,
-        start: target * page,
+        start: target.0 * page,
         units: page / unit,
         unit,
         chunks: page / chunk,
         chunk,
-        mark: (2 + i) * word,
+        mark: mark.0 * word,
         word,
     }
 }
@@ -182,7 +184,12 @@ fn to_dfu(
     if deep == 0 {
         return Reached::On(e, left, i);
     }
-    match read_step(log, e, count, step_for(g, page, 1, g.ed, left, i)) {
+    match read_step(
+        log,
+        e,
+        count,
+        step_for(g, page, 1, g.ed, Page(left), Word(2 + i)),
+    ) {
         Found::Ends => Reached::Ends,
         Found::Wrong => Reached::Wrong,
         Found::Marked(next) => to_active(log, next, count, g, page, left - 1, i + 1, deep - 1),
@@ -204,7 +211,12 @@ fn to_active(
     ensures { λ r. ⌜ Reaches g page (now (log .entry)) e count deep
         (reads g (toActive i left left ∷ swapFrom left (i + 1)) (entriesFrom (now (log .entry)) e (count - e))) r ⌝ }
 {
-    match read_step(log, e, count, step_for(g, page, 0, g.ea, left, i)) {
+    match read_step(
+        log,
+        e,
+        count,
+        step_for(g, page, 0, g.ea, Page(left), Word(2 + i)),
+    ) {
         Found::Ends => Reached::Ends,
         Found::Wrong => Reached::Wrong,
         Found::Marked(next) => to_dfu(log, next, count, g, page, left, i + 1, deep),

@@ -46,6 +46,9 @@ active-claims t = (step-for.Asked, step-for.Learnt, read-step.Asked, read-step.L
 abbrev dfu-claims : ℕ → to-dfu-lts.Claims
 dfu-claims t = (step-for.Asked, step-for.Learnt, read-step.Asked, read-step.Learnt, to-active-below t, to-active.Post)
 
+to-active-add-t13 : (t : ℕ) → to-active-lts.Need-add-t13 (active-claims t) (to-active-at t) to-active.Post
+to-active-add-t13 t c = record { fits = omega (arith, step-fits (c .before .pre .1 .1)) }
+
 to-active-step-for-requires : (t : ℕ) → to-active-lts.Need-step-for-requires (active-claims t) (to-active-at t) to-active.Post
 to-active-step-for-requires t c κs = search needs
 
@@ -105,6 +108,9 @@ to-dfu-returns-3 t c =
     let p = c .before .before .before .pre .1 in
     record { in-log = p .0; fits = p .1; reads = refl; back = omega arith; later = λ n. absurd (n (c .if3 .taken)) }
 
+to-dfu-add-t15 : (t : ℕ) → to-dfu-lts.Need-add-t15 (dfu-claims t) (to-dfu-at t) to-dfu.Post
+to-dfu-add-t15 t c = record { fits = step-fits (c .before .before .before .pre .1 .1) }
+
 to-dfu-step-for-requires : (t : ℕ) → to-dfu-lts.Need-step-for-requires (dfu-claims t) (to-dfu-at t) to-dfu.Post
 to-dfu-step-for-requires t c κs = search needs
 
@@ -124,7 +130,7 @@ to-dfu-sub-to-active : (t : ℕ) → to-dfu-lts.Need-sub-to-active (dfu-claims t
 to-dfu-sub-to-active t c = search needs
 
 to-dfu-add-to-active : (t : ℕ) → to-dfu-lts.Need-add-to-active (dfu-claims t) (to-dfu-at t) to-dfu.Post
-to-dfu-add-to-active t c = record { fits = step-fits (c .before .before .before .before .before .before .before .before .pre .1 .1) }
+to-dfu-add-to-active t c = record { fits = omega (arith, step-fits (c .before .before .before .before .before .before .before .before .pre .1 .1)) }
 
 to-dfu-sub-to-active-2 : (t : ℕ) → to-dfu-lts.Need-sub-to-active-2 (dfu-claims t) (to-dfu-at t) to-dfu.Post
 to-dfu-sub-to-active-2 t c = search needs
@@ -171,6 +177,7 @@ pub +to-active+to-dfu-spec : {M : Type 1} → statement M
     (active-claims t)
     (to-active-at t)
     to-active.Post
+    (to-active-add-t13 t)
     (to-active-step-for-requires t)
     (to-active-read-step-requires t)
     (to-active-enum-told t)
@@ -188,6 +195,7 @@ pub +to-active+to-dfu-spec : {M : Type 1} → statement M
     (to-dfu-returns t)
     (to-dfu-returns-2 t)
     (to-dfu-returns-3 t)
+    (to-dfu-add-t15 t)
     (to-dfu-step-for-requires t)
     (to-dfu-read-step-requires t)
     (to-dfu-enum-told t)

@@ -1,5 +1,3 @@
-use Prim.Native.Nat.{_+_}
-use native.Mathlib.Nat.{le-mul-of-pos-right}
 use native.Mathlib.Omega.{arith}
 use Rattle.log_steps.proofs.Entries.{step-for}
 use borrow.Author.Needs.{needs}
@@ -24,14 +22,11 @@ div-t12 c = search needs
 div-t13 : tie.Need-div-t13
 div-t13 c = search needs
 
-add-t14 : tie.Need-add-t14
-add-t14 c = let s = c .before .before .before .before in record { fits = omega (arith, s .pre .4, le-mul-of-pos-right (2 + s .args .i) (s .pre .2)) }
-
-mul-t15 : tie.Need-mul-t15
-mul-t15 c = let s = c .before .before .before .before in record { fits = rw (c .wide3 .ensures) (omega (arith, s .pre .4)) }
+mul-t14 : tie.Need-mul-t14
+mul-t14 c = record { fits = rw (c .before .before .wide3 .ensures) (omega (arith, c .before .before .before .before .before .before .pre .3)) }
 
 returns : tie.Need-returns
-returns c = step-for _ _ _ _ _ (c .before .before .wide .ensures) (c .before .wide2 .ensures) (c .wide3 .ensures)
+returns c = step-for _ _ _ _ _ (c .before .before .before .before .wide .ensures) (c .before .before .before .wide2 .ensures) (c .before .before .wide3 .ensures)
 
 pub step-for-spec : {M : Type 1} → statement M
 step-for-spec =
@@ -43,6 +38,5 @@ step-for-spec =
     mul-t11
     div-t12
     div-t13
-    add-t14
-    mul-t15
+    mul-t14
     returns)
