@@ -29,12 +29,12 @@ use Rattle.log_steps.proofs.Entries.{nth-erase, nth-write, nth-mark}
 use Rattle.power_log.specs.declared.LogAnswer.{LogAnswer}
 use Rattle.power_log.specs.declared.LogAnswer.the-variants.{Yes, No, Refused}
 use Rattle.power_log.specs.Log.{joined, Swapping, InSwap, answerYes, mostEntries}
-use Rattle.power_log.specs.Tells.{wholeSteps, Tells, AnyImages, Known, Edges, FirstRuns}
+use Rattle.power_log.specs.Tells.{wholeSteps, Tells, Names, AnyImages, Known, Edges, FirstRuns}
 use Rattle.power_log.proofs.Budgets.{upTo, stepLog, tableLog, leftBy, budgetLog, StepsLeft, leftAfter, left-more, left-same, up-length, step-length}
 use Rattle.power_log.proofs.Readable.{Told, AllTold, all-left}
 use Rattle.power_log.proofs.StepLogs.{up-append}
 use Rattle.power_log.proofs.Stands.{Stand, stand-end, stand-count}
-use Rattle.power_log.proofs.Written.{written-length}
+use Rattle.power_log.proofs.Written.{written-length, written-once}
 use Rattle.power_log.proofs.Judges.{start-runs, start-left, from-start, start-told, start-whole, not-refused}
 
 -- ---- the marks of a log
@@ -153,6 +153,12 @@ tells g f m ks i =
           (subst (λ (cs : List Copy). Stand g n (stateBytes g f) (swapTable g f) (swapFrom n 0) cs (runs g ks f))
           (no-step (leftAfter g ks (swapFrom n 0)) (omega (arith, a, e))) (r .leaves));
     }
+
+pub names : (g : Geometry) (f : Flash) → Marked g f → Names g f
+names g f m es k =
+    let e : map entryOf (joined g (k .budgets) f) ≡ es = written-once _ _ (k .leaves) in
+    let t = tells g f m (k .budgets) (k .in-swap) in
+    (t .progress ∙ ap wholeSteps e, λ n. t .swapped (ap wholeSteps e ∙ n))
 
 yes-only : (r : LogAnswer) → answerYes r ≡ 1 → r ≡ Yes
 unfolding answerYes

@@ -32,6 +32,13 @@ pub record LogTells (g : Geometry) (f : Flash) (ks : List Supply) : Type 0 where
 abbrev pub Tells : Geometry → Flash → Type 0
 Tells g f = (ks : List Supply) → InSwap g ks f → LogTells g f ks
 
+-- so a log names the flash that it was left with, whichever budgets made it
+abbrev pub Names : Geometry → Flash → Type 0
+Names g f =
+    (es : List Entry) (k : Makes g (written es) f)
+    → (progress (g .state) (runs g (k .budgets) f .state) ≡ wholeSteps es)
+    × (wholeSteps es ≡ 2 * pageCount g f → runs g (k .budgets) f ≡ swapTable g f)
+
 -- the images' bytes do not matter: from another freshly marked flash of these lengths runs with the same budgets log the same
 pub record SameRuns (g : Geometry) (ks : List Supply) (f h : Flash) : Type 0 where
   pub in-swap : InSwap g ks h
