@@ -1,4 +1,5 @@
 // The bench program: it reads its input from standard input. The crate bench_run says what it does.
+#![tactic(auto)]
 use libc::STDIN_FILENO;
 
 fn main() {

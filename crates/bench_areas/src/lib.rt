@@ -1,5 +1,6 @@
 // The end of the bench program's output, on values: the line that is missing, or the areas in hexadecimal, some bytes at a time. What it
 // gives is the definition `output` of the crate `bench_output`; writing is the caller's.
+#![tactic(auto)]
 ghost use Rattle.std.specs.Prelude.{◌≡◌, ℕ, ◌+◌, ◌%◌, ◌^◌, ◌<◌, ◌≤◌, false, List, [], ◌++◌, length, take};
 ghost use Rattle.io.specs.Counts.{IsPrefixLen};
 ghost use Rattle.answer_text.specs.Answers.{bad_line_text};
@@ -11,7 +12,7 @@ use bench_lines::{Bench, Phase};
 use lines::Lengths;
 
 // What is still to be written: the areas from this one's byte on.
-#[derive(Drop)]
+#[derive(Clone, Copy)]
 pub enum Tail {
     Active(Lengths, usize),
     Dfu(Lengths, usize),

@@ -1,4 +1,5 @@
 // Runs the bench program on each file that its arguments name, and writes each file's name above what the bench writes of it.
+#![tactic(auto)]
 use libc::STDOUT_FILENO;
 
 fn say(bytes: &[u8]) {

@@ -1,4 +1,5 @@
 // The three areas of the bench program: how they start, and what a command does. What is promised is in specs/Images.
+#![tactic(auto)]
 ghost use Rattle.std.specs.Prelude.{◌≡◌, ◌+◌, ◌%◌, ◌<◌, ◌≤◌, length};
 ghost use Rattle.geometry.specs.Refusals.{verdict};
 ghost use Rattle.mem_flash.specs.Run.{flash};
@@ -18,7 +19,7 @@ use state::State;
 pub const MOST: usize = 16384;
 
 // What the first two lines said, and whether a boot with them is refused.
-#[derive(Drop)]
+#[derive(Clone, Copy)]
 pub struct Setup {
     pub g: Geometry,
     pub l: Lengths,

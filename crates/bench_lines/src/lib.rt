@@ -1,6 +1,7 @@
 // The bench program's lines, on values: a machine that takes the input in pieces and gives the text that is due, a line's at a time.
 // What it gives is the definition `output` of the crate `bench_output`; how the two are joined is in specs/Machine. Reading and writing
 // are the caller's.
+#![tactic(auto)]
 ghost use Rattle.std.specs.Prelude.{◌≡◌, ℕ, ◌+◌, ◌<◌, ◌≤◌, List, [], ◌++◌, length, take, drop};
 ghost use Rattle.io.specs.Counts.{IsPrefixLen};
 ghost use Rattle.lines.specs.Lines.{sizes_line, lengths_line, command_line, most_bytes};
@@ -14,7 +15,7 @@ use geometry::Geometry;
 use lines::{CommandLine, LengthsLine, SizesLine, Taken};
 
 // Which line comes next.
-#[derive(Drop)]
+#[derive(Clone, Copy)]
 pub enum Phase {
     Sizes,
     Lengths(Geometry),
@@ -24,7 +25,7 @@ pub enum Phase {
 }
 
 // The next line's kind, how many lines are done, and how many bytes of the next are held.
-#[derive(Drop)]
+#[derive(Clone, Copy)]
 pub struct Bench {
     pub phase: Phase,
     pub lines: u64,
@@ -32,14 +33,14 @@ pub struct Bench {
 }
 
 // What a line leaves, and the length of the text that is due for it.
-#[derive(Drop)]
+#[derive(Clone, Copy)]
 pub struct Text {
     pub bench: Bench,
     pub n: usize,
 }
 
 // The same, and where in the piece the next line starts.
-#[derive(Drop)]
+#[derive(Clone, Copy)]
 pub struct Turn {
     pub bench: Bench,
     pub at: usize,

@@ -1,6 +1,7 @@
 // The bench program on a descriptor. What is written is decided in the crates `bench_lines` and `bench_areas`, on values; here the input
 // is read into a buffer, piece by piece, and the texts that they give are written. specs/Runs says what a run is, and that its texts are
 // the definition `output` of the input.
+#![tactic(auto)]
 use bench_areas::Tail;
 use bench_images::MOST;
 use bench_lines::{Bench, Phase};

@@ -1,5 +1,6 @@
 // The boot loader: boot_loader.rs. The three areas are lent to each call, the sizes are a `Geometry` by value, and a budget
 // of operations stands for the power supply.
+#![tactic(auto)]
 ghost use Rattle.std.specs.Prelude.{◌≡◌};
 ghost use Rattle.mem_flash.specs.Run.{flash};
 ghost use Rattle.rules.specs.Calls.{reported, report, Did};
@@ -10,7 +11,7 @@ use mem_flash::{Budget, Flow};
 use rules::Answer;
 
 // The boot loader is its geometry: the Rust's holds the three flashes too, which are lent here.
-#[derive(Drop)]
+#[derive(Clone, Copy)]
 pub struct BootLoader {
     pub geometry: Geometry,
 }

@@ -1,5 +1,6 @@
 // What a boot has to do, and what each of its steps copies: told by the state area's bytes and by numbers alone. Nothing here knows a
 // flash, so whatever boots, and whatever judges a boot, can stand on these two functions.
+#![tactic(auto)]
 ghost use Rattle.std.specs.Prelude.{◌≡◌, ◌+◌, ◌*◌, ◌<◌, ◌^◌};
 ghost use Rattle.rules.specs.Steps.{step_at};
 ghost use Rattle.rules.specs.Boot.{confirming, task};
@@ -10,14 +11,14 @@ use rules::Task;
 use state::State;
 
 // Which image a page goes to.
-#[derive(Drop)]
+#[derive(Clone, Copy)]
 pub enum Direction {
     ToActive,
     ToDfu,
 }
 
 // A step: a page of one image goes to a page of the other, and a word is marked.
-#[derive(Drop)]
+#[derive(Clone, Copy)]
 pub struct PageCopy {
     pub direction: Direction,
     pub from: Page,

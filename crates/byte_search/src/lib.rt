@@ -1,5 +1,7 @@
 // Where a byte first stands, by whole blocks: a state area may have a million marks, and all that are done are passed over before
 // each step.
+#![tactic(auto)]
+
 ghost use Rattle.std.specs.Prelude.{◌≡◌, ◌≤◌, ◌<◌, length};
 ghost use Rattle.state.specs.Magic.{holds};
 ghost use Rattle.byte_search.specs.First.{Lacks, First};

@@ -1,5 +1,6 @@
 // A confirmation and the power cycles after it: mark_booted with a budget, then boots until one of them is not cut. What request No. 5
 // promises of a confirmation that is cut is here the contract of code that makes these calls, with either of the two mark_booted.
+#![tactic(auto)]
 ghost use Rattle.state.specs.declared.State.{State};
 ghost use Rattle.mem_flash.specs.Run.{flash};
 ghost use Rattle.rules.specs.FirmwareState.{mark};
@@ -13,7 +14,7 @@ use power_cycles::Booted;
 use rules::Answer;
 
 // What mark_booted answered, and the boots after it.
-#[derive(Drop)]
+#[derive(Clone, Copy)]
 pub struct Confirmed {
     pub marked: Answer,
     pub booted: Booted,

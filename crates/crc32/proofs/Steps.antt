@@ -1,7 +1,7 @@
 -- A bit's step passes through exclusive or, and so do any number of steps. Hence eight of them on a register are those on its low byte,
 -- added to the rest moved down by a byte. Assumes nothing.
 use mathlib.Core.Path.{◌≡◌, refl, sym, ap, ap₂, ◌∙◌}
-use Prim.Native.Nat.{ℕ, zero, suc, ◌+◌, ◌*◌, ◌/◌, ◌%◌, ◌^◌, ◌<◌}
+use Prim.Native.Nat.{ℕ, zero, suc, ◌*◌, ◌/◌, ◌%◌, ◌^◌, ◌<◌}
 use native.Mathlib.Nat.{mod-lt, mul-one, div-eq_of_lt}
 use lib.Pow.{split, pow_pos}
 use lib.Bits.{bit_xor, bit_and, xor_shr, xor_mod, xor_comm, xor_zero_r, xor_shifted, shifted_half, shifted_even, and_mask}

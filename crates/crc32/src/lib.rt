@@ -1,4 +1,6 @@
 // The reflected CRC-32 of IEEE 802.3, a byte at a time by a table of 256 words: 02, No. 7.
+#![tactic(auto)]
+
 ghost use Rattle.std.specs.Prelude.{◌≡◌, true, take};
 ghost use Rattle.crc32.specs.Crc.{byte, run, crc, go_on};
 ghost use Rattle.crc32.specs.Table.{tabled};

@@ -1,5 +1,6 @@
 // Sums of standard input, a line each: 123456789, of which the standard's check value is known, and then each byte once, so that each
 // word of the table is used.
+#![tactic(auto)]
 use libc::{STDIN_FILENO, STDOUT_FILENO};
 
 fn told(sum: u32) {

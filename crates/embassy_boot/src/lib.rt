@@ -2,6 +2,7 @@
 // function hands its arguments on to the call over numbers, in one of the crates boundary_.., and promises the same.
 // The functions stand here because an archive has those of its own crate alone.
 // None asks anything of its caller beyond slices that are there: what does not fit is refused by the call.
+#![tactic(auto)]
 ghost use Rattle.std.specs.Prelude.{◌≡◌, []};
 ghost use Rattle.state.specs.declared.State.{State};
 ghost use Rattle.state.specs.Magic.{state_number, state_of};

@@ -1,6 +1,7 @@
 // The updater's record lent by `&mut` and changed in place: the form of the Rust, over the calls that take the record by
 // value. Each call copies the record, makes the call of the same name and stores the record that it hands back; a call that
 // hands none back leaves the record as it is. The functions are free since methods stand in their type's own crate.
+#![tactic(auto)]
 ghost use Rattle.std.specs.Prelude.{◌≡◌, [], length};
 ghost use Rattle.mem_flash.specs.Run.{flash};
 ghost use Rattle.rules.specs.Calls.{reported, report, Did};

@@ -1,5 +1,6 @@
 // The firmware updater: firmware_updater/blocking.rs. Its marks are those of the firmware state, by way of `firmware_marks`. The areas are lent to each call, the sizes stand
 // by value in the records, and a budget of operations stands for the power supply.
+#![tactic(auto)]
 ghost use Rattle.std.specs.Prelude.{◌≡◌, [], length};
 ghost use Rattle.mem_flash.specs.Run.{flash};
 ghost use Rattle.rules.specs.declared.Sector.{Sector};
@@ -15,14 +16,14 @@ use state::State;
 
 // The application's side: new firmware is written to DFU, and the next boot is told of it. The record is handed in and back,
 // or lent (crate firmware_lent); it holds the sizes, and the sector that was erased last.
-#[derive(Drop)]
+#[derive(Clone, Copy)]
 pub struct BlockingFirmwareUpdater {
     pub sizes: Sizes,
     pub last_erased_dfu_sector_index: Sector,
 }
 
 // A call's answer with the record that it hands back.
-#[derive(Drop)]
+#[derive(Clone, Copy)]
 pub struct Written {
     pub updater: BlockingFirmwareUpdater,
     pub answer: Answer,

@@ -1,6 +1,6 @@
 -- Euclid's rule as the function `gcd` uses it: the end of it, and a turn. Assumes nothing.
 use mathlib.Core.Path.{◌≡◌}
-use Prim.Native.Nat.{ℕ, ◌%◌, ◌∣◌}
+use Prim.Native.Nat.{ℕ, ◌%◌}
 use native.Mathlib.Nat.{dvd_refl, dvd-zero, dvd-mod_iff}
 use Rattle.gcd.specs.Multiple.{Greatest}
 

@@ -1,4 +1,6 @@
 // The greatest common divisor by Euclid's rule, and the least common multiple by way of it: 02, No. 6.
+#![tactic(auto)]
+
 ghost use Rattle.std.specs.Prelude.{◌≡◌};
 ghost use Rattle.gcd.specs.Multiple.{Greatest, least_common};
 

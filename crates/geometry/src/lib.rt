@@ -1,4 +1,5 @@
 // The geometry of the three areas, and the refusals that stand for the Rust's assertions on it. `verdicts` judges by them.
+#![tactic(auto)]
 ghost use Rattle.std.specs.Prelude.{◌≡◌, min};
 ghost use Rattle.geometry.specs.Geometry.{cell, page};
 ghost use Rattle.geometry.specs.Refusals.{number};
@@ -7,7 +8,7 @@ use state::Cell;
 
 // The sizes of the state area: its erase size and its write size; and the erase value, 255 or 0, which the three areas share. It stands
 // here since every call reads the state area.
-#[derive(Drop)]
+#[derive(Clone, Copy)]
 pub struct StateSizes {
     pub es: u32,
     pub ws: u32,
@@ -15,7 +16,7 @@ pub struct StateSizes {
 }
 
 // The sizes in bytes. In the Rust they are constants of the flash types, and the chunk is the length of a buffer.
-#[derive(Drop)]
+#[derive(Clone, Copy)]
 pub struct Geometry {
     // Active: erase size and write size.
     pub ea: u32,
@@ -29,7 +30,7 @@ pub struct Geometry {
 }
 
 // The sizes that the firmware updater reads: those of DFU and of the state area.
-#[derive(Drop)]
+#[derive(Clone, Copy)]
 pub struct Sizes {
     pub ed: u32,
     pub wd: u32,
@@ -37,17 +38,17 @@ pub struct Sizes {
 }
 
 // A page of an image, a word of the state area, a byte of an area: three kinds, so that none is passed for another.
-#[derive(Drop)]
+#[derive(Clone, Copy)]
 pub struct Page(pub usize);
 
-#[derive(Drop)]
+#[derive(Clone, Copy)]
 pub struct Word(pub usize);
 
-#[derive(Drop)]
+#[derive(Clone, Copy)]
 pub struct Offset(pub usize);
 
 // Why a call says no. `BadState` is the Rust's; the others are its assertions.
-#[derive(Drop)]
+#[derive(Clone, Copy)]
 pub enum Refusal {
     // A number or a length is past its limit.
     Limit,
@@ -65,7 +66,7 @@ pub enum Refusal {
     Checksum,
 }
 
-#[derive(Drop)]
+#[derive(Clone, Copy)]
 pub enum Verdict {
     Admitted,
     Refused(Refusal),

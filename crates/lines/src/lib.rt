@@ -1,6 +1,7 @@
 // The lines of the bench program's input: cutting the input into them, and what each kind of line says. The rules are in
 // specs/Lines, over the numbers of `numerals`; every function here answers just what they say, so nothing that they allow is refused,
 // and nothing else is taken.
+#![tactic(auto)]
 ghost use Rattle.std.specs.Prelude.{◌≡◌, length};
 ghost use Rattle.lines.specs.Lines.{sizes_line, lengths_line, command_line, most_bytes, taken_at, held_then};
 ghost use Rattle.lines.specs.Lines.{named as Lines·named};
@@ -10,14 +11,14 @@ use numerals::SPACE;
 use state::State;
 
 // The first line.
-#[derive(Drop)]
+#[derive(Clone, Copy)]
 pub enum SizesLine {
     Sizes(Geometry),
     Other,
 }
 
 // The lengths of the three areas.
-#[derive(Drop)]
+#[derive(Clone, Copy)]
 pub struct Lengths {
     pub active: usize,
     pub dfu: usize,
@@ -25,14 +26,14 @@ pub struct Lengths {
 }
 
 // The second line.
-#[derive(Drop)]
+#[derive(Clone, Copy)]
 pub enum LengthsLine {
     Lengths(Lengths),
     Other,
 }
 
 // A command, with its budget.
-#[derive(Drop)]
+#[derive(Clone, Copy)]
 pub enum Command {
     Update(u32),
     Booted(u32),
@@ -40,14 +41,14 @@ pub enum Command {
 }
 
 // Every further line.
-#[derive(Drop)]
+#[derive(Clone, Copy)]
 pub enum CommandLine {
     Command(Command),
     Other,
 }
 
 // What a piece of the input added to a line.
-#[derive(Drop)]
+#[derive(Clone, Copy)]
 pub enum Taken {
     // The line is whole: its bytes, and where the next one starts.
     Line(usize, usize),

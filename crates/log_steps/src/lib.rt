@@ -1,5 +1,6 @@
 // The readers of a power log: 02, No. 12. A log is a slice of numbers, four to an entry. A step leaves the erases of its page, its chunk
 // writes and its mark, and may be begun again after a cut; the two directions take turns.
+#![tactic(auto)]
 ghost use Rattle.std.specs.Prelude.{◌≡◌, ◌∷◌, ◌+◌, ◌-◌, ◌*◌, ◌^◌, ◌≤◌, ◌<◌, length};
 ghost use Rattle.rules.specs.Steps.{swap_from, to_active};
 ghost use Rattle.log_steps.specs.Steps.{step_for, nth, Small};
@@ -8,7 +9,7 @@ ghost use Rattle.log_steps.specs.Reader.{same, entry_at, entries_from, tried, re
 use geometry::{Geometry, Page, Word};
 
 // An entry: kind 0 is an erase, 1 a write; area 0 is active, 1 DFU, 2 the state area.
-#[derive(Drop)]
+#[derive(Clone, Copy)]
 pub struct Entry {
     pub kind: u32,
     pub area: u32,
@@ -17,7 +18,7 @@ pub struct Entry {
 }
 
 // What a step leaves in a log, as numbers: so many erases of a page's units, so many chunks, and the mark's word.
-#[derive(Drop)]
+#[derive(Clone, Copy)]
 pub struct Step {
     pub area: u32,
     pub start: usize,
@@ -30,7 +31,7 @@ pub struct Step {
 }
 
 // How the reading of a step ends: with the log, at an entry that cannot stand there, or behind the step's mark.
-#[derive(Drop)]
+#[derive(Clone, Copy)]
 pub enum Found {
     Ends,
     Wrong,
@@ -39,7 +40,7 @@ pub enum Found {
 
 // How far the two readers come together: the log ends, it is wrong, or it is to be read on from an entry, with so many pages left and a
 // next step.
-#[derive(Drop)]
+#[derive(Clone, Copy)]
 pub enum Reached {
     Ends,
     Wrong,

@@ -1,12 +1,14 @@
 // A word as a number, and a line as a row of them: the reading of words of the bench program's input. The rules are in specs/Text;
 // every function here answers just what they say.
+#![tactic(auto)]
+
 ghost use Rattle.std.specs.Prelude.{◌≡◌, ◌+◌, drop, length};
 ghost use Rattle.numerals.specs.Text.{first, number as Text·number, row as Text·row, numeral_of, row_of};
 
 pub const SPACE: u8 = 32;
 
 // What a word is read as.
-#[derive(Drop)]
+#[derive(Clone, Copy)]
 pub enum Numeral {
     Is(u32),
     Not,

@@ -1,1 +1,3 @@
 // No code: the theorems over the definitions of `rules`. specs/ says them, proofs/ proves them.
+
+#![tactic(auto)]

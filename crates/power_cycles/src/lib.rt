@@ -1,5 +1,6 @@
 // Power cycles: boots one after the other, each with its budget, until one of them is not cut. What demand 3 promises is here the
 // contract of code that makes these boots.
+#![tactic(auto)]
 ghost use Rattle.mem_flash.specs.Run.{flash};
 ghost use Rattle.power_cycles.specs.Cycles.{Cycles};
 
@@ -7,7 +8,7 @@ use boot_loader::BootLoader;
 use rules::Answer;
 
 // The boots that were made, and the answer of the last.
-#[derive(Drop)]
+#[derive(Clone, Copy)]
 pub struct Booted {
     pub runs: usize,
     pub answer: Answer,

@@ -1,12 +1,13 @@
 // Replays a sample of the original's answers, read from standard input, through the library, and says how many calls of each kind
 // came out the same. It lets the repository's own tests hold the library to the original without a Rust compiler. What the sample
 // is made of, and its format, stands in the README of the folder oracle.
+#![tactic(auto)]
 ghost use Rattle.std.specs.Prelude.{◌+◌, ◌<◌, ◌≤◌};
 
 use libc::{STDIN_FILENO, STDOUT_FILENO};
 
 // The numbers that stand at the head of a record.
-#[derive(Drop)]
+#[derive(Clone, Copy)]
 struct Record {
     kind: u32,
     ea: u32,
@@ -22,7 +23,7 @@ struct Record {
 }
 
 // How a record came out. One that is not whole ends the run.
-#[derive(Drop)]
+#[derive(Clone, Copy)]
 enum Outcome {
     Same(u32),
     Different(u32),
@@ -139,7 +140,7 @@ fn call(
 }
 
 // The lengths of what a record lends.
-#[derive(Drop)]
+#[derive(Clone, Copy)]
 struct Lengths {
     active: usize,
     dfu: usize,

@@ -1,5 +1,5 @@
 -- Two functions of three words that agree on bits agree on words; so the shorter forms of Ch and Maj are theirs. Assumes nothing.
-use Rattle.std.proofs.Common.{◌≡◌, ℕ, zero, suc, ◌-◌, ◌*◌, ◌/◌, ◌%◌, ◌^◌, ◌<◌, sym, refl, ap, ◌∙◌, ap₂, mod-lt, pow-suc, arith}
+use Rattle.std.proofs.Common.{◌≡◌, ℕ, zero, suc, ◌-◌, ◌/◌, ◌%◌, ◌^◌, ◌<◌, sym, refl, ap, ◌∙◌, ap₂, pow-suc, arith}
 use lib.Arith.{lt-one}
 use lib.Bits.{bit_and, bit_xor, and_shr, xor_shr, and_mod, xor_mod}
 use Rattle.sha512_words.specs.Words.{ch, maj, notw}

@@ -1,5 +1,6 @@
 // The bench sheet, run through the code: each case is printed with its answer and areas, and held to what the sheet says.
 // Answers read as document 01 has them: the number, the state or a dash, the operations.
+#![tactic(auto)]
 use boot_loader::BootLoader;
 use firmware_state::BlockingFirmwareState;
 use geometry::{Geometry, StateSizes};

@@ -5,7 +5,7 @@ use rules::{Answer, Sector};
 use state::State;
 
 // What a case is to answer.
-#[derive(Drop)]
+#[derive(Clone, Copy)]
 pub struct Expected {
     pub number: u32,
     // The state's number, or 9 where none is carried.

@@ -1,4 +1,5 @@
 // The boot state and the bytes that stand for it in flash: lib.rs of the crate.
+#![tactic(auto)]
 ghost use Rattle.std.specs.Prelude.{◌≡◌, [], ◌∷◌};
 ghost use Rattle.state.specs.Cells.{erased, marked};
 ghost use Rattle.state.specs.Magic.{magic, state_of};
@@ -6,7 +7,7 @@ ghost use Rattle.state.specs.Magic.{magic, state_of};
 pub mod word;
 
 // What the boot loader finds to do, as the first word of the state area says it.
-#[derive(Drop)]
+#[derive(Clone, Copy)]
 pub enum State {
     // Nothing: the active image is started.
     Boot,
@@ -19,7 +20,7 @@ pub enum State {
 }
 
 // The cells of which a flash is made, by how an erased one reads: ones, which a write turns to zeros, or the other way round.
-#[derive(Drop)]
+#[derive(Clone, Copy)]
 pub enum Cell {
     High,
     Low,

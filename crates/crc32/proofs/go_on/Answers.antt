@@ -1,19 +1,14 @@
 -- `go_on` meets its contract. Its table passes the test: computed here, once, over all 256 words. Assumes nothing.
 use mathlib.Core.Path.{refl}
-use borrow.Author.Rules.{rules}
 use Rattle.state.specs.Choice.{pick}
 use Rattle.crc32.specs.Crc.{bit, bits, go_on}
 use Rattle.crc32.specs.Table.{tabled}
-use Rattle.crc32.proofs.go_on.Statement.{statement}
-use Rattle.crc32.proofs.go_on.Tie as tie
+use Rattle.crc32.proofs.go_on.Goals as goal
 
-run-requires : tie.Need-run-requires
+pub run-requires : goal.run-requires
 unfolding bit bits tabled pick
-run-requires c κs = refl
+run-requires c = refl
 
-returns : tie.Need-returns
+pub returns : goal.returns
 unfolding go_on
 returns c = cc
-
-pub go-on-spec : {M : Type 1} → statement M
-go-on-spec = tie.close (tie.spec run-requires returns)
