@@ -1,7 +1,7 @@
 -- The page: both erase sizes divide it, and no smaller page would serve (specs/PageSize). What is cited of it stands here, so that its
 -- definition is opened nowhere else. Assumes nothing.
 use mathlib.Core.Path.{◌≡◌}
-use Prim.Native.Nat.{ℕ, ◌*◌, ◌%◌, ◌∣◌, ◌≤◌, ◌<◌}
+use Prim.Native.Nat.{◌*◌, ◌%◌, ◌≤◌, ◌<◌}
 use native.Mathlib.Nat.{le_trans, mul-le-mul, mod-eq-zero_of_dvd}
 use Rattle.gcd.proofs.Least.{common_some, common_first, common_second, common_least, common_larger, common_most}
 use Rattle.geometry.specs.declared.Geometry.{Geometry}

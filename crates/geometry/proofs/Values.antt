@@ -2,12 +2,10 @@
 -- leaves. Assumes nothing.
 use mathlib.Core.Path.{◌≡◌, refl, sym}
 use mathlib.Core.Bool.{Bool, true, false}
-use mathlib.Core.List.{[], ◌∷◌}
 use Prim.Native.Nat.{ℕ}
 use native.Mathlib.Omega.{arith}
 use lib.Dec.{eqb}
-use borrow.Author.Tests.{eq-eqb, ne_eqb, eqb-true, not-false}
-use Rattle.state.specs.declared.Cell.{Cell}
+use borrow.Author.Tests.{eq-eqb, ne_eqb, eqb-true}
 use Rattle.state.specs.declared.Cell.TheVariants.{High, Low}
 use Rattle.state.specs.Choice.{pick}
 use Rattle.state.specs.Cells.{erased}

@@ -1,5 +1,6 @@
 // The geometry of the three areas, and the refusals that stand for the Rust's assertions on it. `verdicts` judges by them.
 #![tactic(auto)]
+
 ghost use Rattle.std.specs.Prelude.{◌≡◌, min};
 ghost use Rattle.geometry.specs.Geometry.{cell, page};
 ghost use Rattle.geometry.specs.Refusals.{number};

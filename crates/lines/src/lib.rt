@@ -2,6 +2,7 @@
 // specs/Lines, over the numbers of `numerals`; every function here answers just what they say, so nothing that they allow is refused,
 // and nothing else is taken.
 #![tactic(auto)]
+
 ghost use Rattle.std.specs.Prelude.{◌≡◌, length};
 ghost use Rattle.lines.specs.Lines.{sizes_line, lengths_line, command_line, most_bytes, taken_at, held_then};
 ghost use Rattle.lines.specs.Lines.{named as Lines·named};

@@ -23,11 +23,11 @@ module _ (c : Cell) where
       → Beside at n xs ys → Beside at n xs (chunked c j p from b source ys)
   unfolding chunked
   beside_chunked zero p from b source lo hi fit h = h
-  beside_chunked {at} {n} {xs} (suc j) p from b source lo hi fit h =
+  beside_chunked {at = at} {n = n} {xs = xs} {ys = ys} (suc j) p from b source lo hi fit h =
       let bs : List ℕ = take b (drop from source) in
       let l : length bs ≤ b = simp length-take (min-le_left b (length (drop from source))) in
       let m : p + (j * b + b) ≤ at + n = rw suc-mul at hi in
-      beside_chunked j (p + b) (from + b) b source (omega arith) (omega arith) fit (beside_written c p bs lo (omega arith) fit h)
+      beside_chunked {ys = written_at c p bs ys} j (p + b) (from + b) b source (omega arith) (omega arith) fit (beside_written c p bs lo (omega arith) fit h)
 
   -- on an erased stretch the chunks leave the source's bytes
   chunked_erased : (n at from b : ℕ) (source before behind : List ℕ) → length before ≡ at → Bytes source

@@ -1,6 +1,7 @@
 // Flash in memory: mem_flash.rs, with a budget that erases count against too, and writes that turn bits one way only, as the cells do.
 // A range that runs past the end of an area changes the bytes that are there, so nothing is asked of the caller.
 #![tactic(auto)]
+
 ghost use Rattle.std.specs.Prelude.{◌≡◌, ◌+◌, ◌-◌, ◌*◌, ◌≤◌, ◌<◌, ◌^◌, length, take, replicate};
 ghost use Rattle.state.specs.declared.Cell.{Cell as Cells};
 ghost use Rattle.state.specs.Cells.{erased, marked, programmed};

@@ -1,8 +1,7 @@
 -- What `add` makes of a stream, by whether the piece fills the block; and that the stream of some bytes goes on to that of more.
 -- Assumes nothing.
-use Rattle.std.proofs.Common.{◌≡◌, ℕ, ◌+◌, ◌-◌, ◌%◌, ◌^◌, ◌<◌, ◌≤◌, List, ◌++◌, length, take, drop, replicate, sym, refl, ap, ◌∙◌, ap₂, append_assoc, le_refl, arith, length-append, length-drop, take-append-drop, length-take-le, take_all, take_at, drop_at}
-use lib.ListN.{length-replicate}
-use lib.Seq.{paste, take-paste, length-paste, take-length, drop-append-add}
+use Rattle.std.proofs.Common.{◌≡◌, ℕ, ◌+◌, ◌-◌, ◌%◌, ◌^◌, ◌<◌, ◌≤◌, List, ◌++◌, length, take, drop, replicate, sym, ap, ◌∙◌, ap₂, append_assoc, arith, length-append, length-drop, take-append-drop, length-take-le, take_all, take_at}
+use lib.Seq.{paste, length-paste, take-length, drop-append-add}
 use Rattle.sha512_words.specs.declared.Eight.{Eight}
 use Rattle.sha512_block.specs.Rounds.{compress}
 use Rattle.sha512_bytes.proofs.Stores.{paste_to_end, drop_replicate}

@@ -1,5 +1,5 @@
 -- The padding, in one block or in two. Assumes nothing.
-use Rattle.std.proofs.Common.{◌≡◌, ℕ, suc, ◌+◌, ◌-◌, ◌%◌, ◌<◌, ◌≤◌, List, ◌∷◌, ◌++◌, length, take, set, replicate, sym, refl, ap, ◌∙◌, ap₂, append_assoc, arith, length-append, length-take-le, take_at}
+use Rattle.std.proofs.Common.{◌≡◌, ℕ, suc, ◌+◌, ◌-◌, ◌%◌, ◌<◌, ◌≤◌, List, ◌∷◌, ◌++◌, length, take, set, replicate, sym, ap, ◌∙◌, ap₂, append_assoc, arith, length-append, take_at}
 use lib.ListN.{length-replicate, replicate-append-replicate}
 use lib.Seq.{set_at}
 use Rattle.sha512_words.specs.declared.Eight.{Eight}

@@ -5,7 +5,7 @@ use Rattle.state.specs.Choice.{pick}
 use Rattle.sha512_bytes.specs.Bytes.{bytes_of}
 use Rattle.sha512.specs.declared.Stream.{Stream}
 use Rattle.sha512.specs.Sha512.{h0, padding, hashed, sha512}
-use Rattle.sha512.specs.Streams.{left, holding, stream, pending, finished, Finished, joined, AddedAll, none, next}
+use Rattle.sha512.specs.Streams.{holding, stream, finished, Finished, joined, AddedAll, none, next}
 use Rattle.sha512.proofs.Blocks.{hashed_on}
 use Rattle.sha512.proofs.Adding.{pending_holding}
 

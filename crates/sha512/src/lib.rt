@@ -1,5 +1,6 @@
 // SHA-512 (FIPS 180-4) of bytes that come in pieces: 02, No. 8. No function asks anything of its caller.
 #![tactic(auto)]
+
 ghost use Rattle.std.specs.Prelude.{◌≡◌, [], ◌++◌};
 ghost use Rattle.sha512_block.specs.Constants.{ks};
 ghost use Rattle.sha512.specs.Sha512.{padding, hashed};

@@ -1,5 +1,6 @@
 // One block: the schedule of its words, and the eighty rounds (FIPS 180-4, section 6.4.2).
 #![tactic(auto)]
+
 ghost use Rattle.std.specs.Prelude.{◌≡◌, ◌+◌, ◌*◌, ◌^◌, ◌≤◌, ◌<◌, length, get_or, take};
 ghost use Rattle.sha512_block.specs.Constants.{ks};
 ghost use Rattle.sha512_block.specs.Partly.{Extended, Passed};

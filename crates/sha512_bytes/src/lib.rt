@@ -1,5 +1,6 @@
 // Bytes and words stored in order, and the blocks that a message ends with.
 #![tactic(auto)]
+
 ghost use Rattle.std.specs.Prelude.{◌≡◌, ◌++◌, ◌+◌, ◌-◌, ◌≤◌, length, take, replicate};
 ghost use Rattle.std.proofs.Math.Seq.{paste};
 ghost use Rattle.sha512_bytes.specs.Bytes as def;

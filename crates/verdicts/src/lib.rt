@@ -1,6 +1,7 @@
 // The refusals that stand for the Rust's assertions on the geometry, the const block of `prepare_boot` and
 // `assert_partitions` of boot_loader.rs: the rows of the table as tests, and what they say of a call.
 #![tactic(auto)]
+
 ghost use Rattle.std.specs.Prelude.{◌≡◌, false};
 ghost use Rattle.geometry.specs.Refusals.{verdict, boot_refusal, state_refusal, updater_refusal};
 
