@@ -2,16 +2,12 @@
 -- kinds. Assumes nothing.
 use mathlib.Core.Path.{◌≡◌, refl, sym}
 use mathlib.Core.Bool.{Bool, true, false}
-use mathlib.Core.Logic.{⊎_elim}
-use mathlib.Core.List.{List, [], ◌∷◌}
+use mathlib.Core.List.{List}
 use Prim.Native.Nat.{ℕ, ◌+◌, ◌-◌, ◌*◌, ◌/◌, ◌%◌, ◌≤◌, ◌<◌}
 use native.Mathlib.Nat.{div-add-mod'}
 use native.Mathlib.Omega.{arith}
 use lib.Dec.{ltb}
-use types.Run.{OneOf}
-use denote.Enum.Declared.{tag_of}
 use borrow.Author.Tests.{lt-ltb, le-ltb, ltb-false}
-use Rattle.state.specs.contracts.State.{the_type}
 use Rattle.state.specs.declared.State.{State}
 use Rattle.state.specs.declared.State.TheVariants.{Boot, Swap, Revert, DfuDetach}
 use Rattle.state.specs.Choice.{pick}
@@ -44,11 +40,11 @@ module _ (z : StateSizes) (n : ℕ) (st : List ℕ) where
 
 -- ---- a boot's task
 
--- only Swap acts; the match tells of every other state by its place in the enum
-pub idle : (s : State) (z : StateSizes) (n : ℕ) (st : List ℕ) → OneOf (0 ∷ 2 ∷ 3 ∷ []) (tag_of the_type s) → tasks.Nothing ≡ task s z n st
+-- only Swap acts
+pub idle : (s : State) (z : StateSizes) (n : ℕ) (st : List ℕ) → (s ≡ Swap → ⊥) → tasks.Nothing ≡ task s z n st
 unfolding task
 idle Boot z n st o = refl
-idle Swap z n st o = absurd (⊎_elim (λ e. omega (arith, e)) (λ p. ⊎_elim (λ e. omega (arith, e)) (λ e. omega (arith, e)) p) o)
+idle Swap z n st o = absurd (o refl)
 idle Revert z n st o = refl
 idle DfuDetach z n st o = refl
 

@@ -1,6 +1,7 @@
 // What a boot has to do, and what each of its steps copies: told by the state area's bytes and by numbers alone. Nothing here knows a
 // flash, so whatever boots, and whatever judges a boot, can stand on these two functions.
 #![tactic(auto)]
+
 ghost use Rattle.std.specs.Prelude.{◌≡◌, ◌+◌, ◌*◌, ◌<◌, ◌^◌};
 ghost use Rattle.rules.specs.Steps.{step_at};
 ghost use Rattle.rules.specs.Boot.{confirming, task};

@@ -92,7 +92,7 @@ module _ {g : Geometry} {n end : ℕ} {ops : List Op} {k₀ : Budget} {f₀ : Fl
         again =
             found
             ∙ sym (rw marked at (progress_behind g (step_at n next) f f₁ (step_image n next below) (omega (arith, marked, w.read))
-            (omega (arith, marked, below, w.admitted.state-words, w.count)) left))
+            (omega (arith, marked, below, w.admitted.state_words, w.count)) left))
 
         carried : run k₀.0 ops f₀ ≡ run l.0 (copies_ops g (slice m end (all_steps n)) f₁) f₁
         carried =

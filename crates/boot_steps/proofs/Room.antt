@@ -21,7 +21,7 @@ module _ {g : Geometry} {a d s : ℕ} (w : Admitted g a d s) where
   -- four steps to a page, counted with the words in front of the marks, fit
   pub pages_few : 4 * pages g a + 2 < 2 ^ 64
   unfolding most_length pages
-  pages_few = omega (arith, w.active-most, div-le_self a (page g))
+  pages_few = omega (arith, w.active_most, div-le_self a (page g))
 
   -- by the page's size as it was computed
   pub steps_few : {p : ℕ} → p ≡ page g → 4 * (a / p) < 2 ^ 64
@@ -33,7 +33,7 @@ module _ {g : Geometry} {a d s : ℕ} (w : Admitted g a d s) where
     pub mark_in : (i : ℕ) → i ≤ 4 * n → (3 + i) * g.state.ws ≤ s
     unfolding boot_words words
     mark_in i h =
-        let m : (3 + i) * g.state.ws ≤ s / g.state.ws * g.state.ws = mul-le-mul_right g.state.ws (omega (arith, w.state-words, e)) in
+        let m : (3 + i) * g.state.ws ≤ s / g.state.ws * g.state.ws = mul-le-mul_right g.state.ws (omega (arith, w.state_words, e)) in
         omega (arith, div-mul-le_self s g.state.ws)
 
     -- k pages of active, which are no more than it has
@@ -48,7 +48,7 @@ module _ {g : Geometry} {a d s : ℕ} (w : Admitted g a d s) where
       step_room p q =
           let o : c.mark.0 ≡ 2 + i = omega (arith, y.mark, step_mark n i h) in
           record {
-            pages = record { chunk = w.numbers.b.some; chunks = even_times _ _ w.page-b; source = p; target = q };
+            pages = record { chunk = w.numbers.b.some; chunks = even_times _ _ w.page_b; source = p; target = q };
             mark = rw o (omega (arith, mark_in i (omega arith)));
           }
 
@@ -60,7 +60,7 @@ module _ {g : Geometry} {a d s : ℕ} (w : Admitted g a d s) where
           let b : Between n (step_at n i) dfu = rw t at (step_between n i h) in
           step_room
           (rw y.source (omega (arith, pages_in ((step_at n i).source + 1) (omega (arith, b.0)))))
-          (rw y.target (omega (arith, pages_in (step_at n i).target b.1, w.dfu-longer)))
+          (rw y.target (omega (arith, pages_in (step_at n i).target b.1, w.dfu_longer)))
 
       pub room_to_active : c.direction ≡ ToActive → StepRoom g c d a s
       unfolding toward
@@ -68,5 +68,5 @@ module _ {g : Geometry} {a d s : ℕ} (w : Admitted g a d s) where
           let t : (step_at n i).to ≡ active = sym y.to ∙ (rw z) in
           let b : Between n (step_at n i) active = rw t at (step_between n i h) in
           step_room
-          (rw y.source (omega (arith, pages_in (step_at n i).source b.0, w.dfu-longer)))
+          (rw y.source (omega (arith, pages_in (step_at n i).source b.0, w.dfu_longer)))
           (rw y.target (omega (arith, pages_in ((step_at n i).target + 1) (omega (arith, b.1)))))

@@ -54,7 +54,7 @@ module _ (z : Sizes) (len chunk : ℕ) (out d s : List ℕ) {v : Verdict}
     unfolding most_length
     counted =
         let l = length-take-le len d asked.0 in
-        let m = (updater_admits z (length d) (length s) false _ admits).0.dfu-most in
+        let m = (updater_admits z (length d) (length s) false _ admits).0.dfu_most in
         omega (arith, l, m, asked.0)
 
     pub hash_done : {xs : List ℕ} → xs ≡ sha512 (take len d) → Hashed z len chunk out xs (flash [] d s) (answers.Done 0)

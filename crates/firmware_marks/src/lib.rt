@@ -1,6 +1,7 @@
 // What the six calls that mark share, those of the firmware state and those of the updater: the refusal as it was judged, else the magic.
 // An inner layer: each of the six judges for itself, and hands its verdict in.
 #![tactic(auto)]
+
 ghost use Rattle.std.specs.Prelude.{◌≡◌, List, ℕ};
 ghost use Rattle.std.proofs.Math.Option.{none};
 ghost use Rattle.state.specs.Magic.{magic};

@@ -1,6 +1,7 @@
 // What the updater is made of: the verdicts of its calls, the copy of read_dfu and the pieces of write_firmware.
 // An inner layer: nothing outside calls it but the updater, whose proof meets what these functions ask (`requires`).
 #![tactic(auto)]
+
 ghost use Rattle.std.specs.Prelude.{◌≡◌, false, not, length};
 ghost use Rattle.geometry.specs.Refusals.{verdict, updater_refusal};
 ghost use Rattle.rules.specs.FirmwareUpdater.{pending, bad_range};

@@ -114,7 +114,7 @@ module _ (u : BlockingFirmwareUpdater) (d s : List ℕ) (offset : ℕ) (bytes : 
     unfolding write_refusal
     firmware_room =
         let a = updater_admits u.sizes (length d) (length s) _ _ passed in
-        (a.0.ed.some, a.0.dfu-units, range_in u.sizes.wd (length d) offset (length bytes) a.1)
+        (a.0.ed.some, a.0.dfu_units, range_in u.sizes.wd (length d) offset (length bytes) a.1)
 
     module _ {k : ℕ} {m : Sector} {d₁ : List ℕ} {r : Flow} {c : Cell} (h : c ≡ cell u.sizes.state)
         (w : WroteBy k u.sizes.ed (pieces_ops c u.sizes.ed (last_of u) (pieces u.sizes.ed offset bytes)) (last_of u) m d d₁ r) where

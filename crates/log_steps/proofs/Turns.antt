@@ -133,7 +133,7 @@ reach_on g p log e n count deep d whole part reached.Ends l q h = sym q ∙ h
 reach_on g p log e n count deep d whole part reached.Wrong l q h = sym q ∙ h
 reach_on g p log e n count deep d whole part (reached.On a left i) l q h =
     record {
-      in_log = h.in-log;
+      in_log = h.in_log;
       fits = h.fits;
       reads = h.reads ∙ q;
       back = omega (arith, h.back);
@@ -157,7 +157,7 @@ module _ {g : Geometry} {p : ℕ} {log : List ℕ} {count : ℕ} {whole : Bool} 
   pub going_on : {a b c : ℕ} → r ≡ reached.On a b c → Going g p log count whole a b c
   going_on q =
       let t = subst (Reaches g p log e count deep _) q h in
-      record { in_log = t.in-log; fits = t.fits; reads = t.reads ∙ s.reads }
+      record { in_log = t.in_log; fits = t.fits; reads = t.reads ∙ s.reads }
 
   pub going_later : {a b c : ℕ} → r ≡ reached.On a b c → (deep ≡ 0 → ⊥) → e < a
   going_later q z = (subst (Reaches g p log e count deep _) q h).later z
@@ -172,4 +172,4 @@ going_done {g} {log = log} {count} {e = e} {left} {i} s l = go (ℕ_discrete e c
 
     go : Dec (e ≡ count) → eqb e count ≡ reads g (swap_from left i) (entries_from log e (count - e))
     go (yes h) = eq-eqb e count h ∙ sym (none_ends g log e count left i none h)
-    go (no h) = ne_eqb e count h ∙ sym (none_wrong g log e count left i none s.in-log.place h)
+    go (no h) = ne_eqb e count h ∙ sym (none_wrong g log e count left i none s.in_log.place h)

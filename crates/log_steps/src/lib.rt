@@ -1,6 +1,7 @@
 // The readers of a power log: 02, No. 12. A log is a slice of numbers, four to an entry. A step leaves the erases of its page, its chunk
 // writes and its mark, and may be begun again after a cut; the two directions take turns.
 #![tactic(auto)]
+
 ghost use Rattle.std.specs.Prelude.{◌≡◌, ◌∷◌, ◌+◌, ◌-◌, ◌*◌, ◌^◌, ◌≤◌, ◌<◌, length};
 ghost use Rattle.rules.specs.Steps.{swap_from, to_active};
 ghost use Rattle.log_steps.specs.Steps.{step_for, nth, Small};

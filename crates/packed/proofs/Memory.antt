@@ -114,7 +114,7 @@ module _ (k : ℕ) (z : Sizes) (m : Sector) (offset : ℕ) (bytes : List ℕ) (f
       go true e =
           let a = updater_admits z (length f.dfu) (length f.state) _ _ (eqb-true _ _ e) in
           remembers_one k z.ed m
-          (erases (cell z.state) z.ed m (starts_in bytes (range_in z.wd (length f.dfu) offset (length bytes) a.1) a.0.dfu-most))
+          (erases (cell z.state) z.ed m (starts_in bytes (range_in z.wd (length f.dfu) offset (length bytes) a.1) a.0.dfu_most))
       go false e = same
 
 -- ---- in 32 bits

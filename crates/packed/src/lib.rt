@@ -2,6 +2,7 @@
 // the updater's memory as a number that the caller keeps. The rules are in specs/Packed; proofs/Apart and proofs/Memory say that nothing
 // is lost.
 #![tactic(auto)]
+
 ghost use Rattle.std.specs.Prelude.{◌≡◌, ◌≤◌};
 ghost use Rattle.state.specs.Magic.{state_number};
 ghost use Rattle.rules.specs.Calls.{reported};

@@ -1,6 +1,7 @@
 // The copy of a page from one image to another, whichever the two are: what copy_page_once_to_active and copy_page_once_to_dfu of
 // boot_loader.rs share. A layer within the boot loader: only `boot_steps` calls it, and its proof meets what these functions ask.
 #![tactic(auto)]
+
 ghost use Rattle.std.specs.Prelude.{◌≡◌, ◌+◌, ◌*◌, ◌≤◌, ◌<◌, ◌^◌, length};
 ghost use Rattle.geometry.specs.Geometry.{cell, page};
 ghost use Rattle.mem_flash.specs.Run.{InArea};

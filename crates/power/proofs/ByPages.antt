@@ -27,17 +27,17 @@ module _ (g : Geometry) (f : Flash) (r : Ready g f) where
   unfolding swap_table new_dfu
   swapped_pages =
       let im =
-      images s.paged r.marked.active-bytes
-      r.marked.dfu-bytes in
+      images s.paged r.marked.active_bytes
+      r.marked.dfu_bytes in
       record {
-        active = im.active-page;
-        dfu = λ k h. rw add-one (im.dfu-page k h);
+        active = im.active_page;
+        dfu = λ k h. rw add-one (im.dfu_page k h);
         dfu_first =
             take_at (take (page g) f.dfu) (f.active ++ drop (page g + length f.active) f.dfu) (page g)
             (length-take-le (page g) f.dfu (omega (arith, s.paged.dfu)));
         dfu_rest = dfu_behind s.paged;
-        active_length = im.active-same;
-        dfu_length = im.dfu-same;
+        active_length = im.active_same;
+        dfu_length = im.dfu_same;
       }
 
   reverted_pages : (st : List ℕ) → RevertedPages g f (revert_images g st f)
@@ -60,7 +60,7 @@ module _ (g : Geometry) (f : Flash) (r : Ready g f) where
           (omega (
             arith,
             pages_le (page g) {k = page_count g f - 1} {n = page_count g f}
-                (omega (arith, r.some-page)),
+                (omega (arith, r.some_page)),
             s.paged.active,
           ))
 

@@ -103,7 +103,7 @@ module _ (g : Geometry) (f : Flash) (s : Swapped g f) where
       done_marks g.state z.ws (marked cells) (2 * N) (t - 2 * N) room in
       subst (λ (st : List ℕ). confirming g.state N st ≡ true) void_is
       (confirming_swapped g.state N (spread g.state.ws (mark_words cells (marked cells) (2 * N) (t - 2 * N)))
-      (marks_void g.state z.ws (2 * N) (t - 2 * N) room) (omega (arith, d)) (omega (arith, d, s.some-page)))
+      (marks_void g.state z.ws (2 * N) (t - 2 * N) room) (omega (arith, d)) (omega (arith, d, s.some_page)))
 
   begun_wants : boot_ops g begun ≡ renew_ops g.state S (magic Boot)
   unfolding closed

@@ -112,7 +112,7 @@ module _ (g : Geometry) (f : Flash) where
       let a = admitted g (length f.active) (length f.dfu) (length f.state) r in
       let p : 0 < page g = page_some a.numbers in
       let whole : length f.active / page g * page g ≡ length f.active =
-      even_times (length f.active) (page g) a.active-pages in
+      even_times (length f.active) (page g) a.active_pages in
       let step : dearer_cost g ≤ 3 * page g =
       omega (
         arith,
@@ -121,7 +121,7 @@ module _ (g : Geometry) (f : Flash) where
         div-le_self (page g) (unit_of g active),
       ) in
       let all : N * dearer_cost g ≤ N * (3 * page g) = mul-le-mul_left N step in
-      omega (arith, boot_most, a.active-most, a.state-most, div-le_self (length f.state) g.state.es)
+      omega (arith, boot_most, a.active_most, a.state_most, div-le_self (length f.state) g.state.es)
 
 -- ---- marks: invalidate, erase, write
 

@@ -2,7 +2,7 @@
 -- those of the crate. Assumes nothing.
 use mathlib.Core.Path.{◌≡◌, sym, ap, ◌∙◌}
 use mathlib.Core.Logic.{◌≢◌}
-use Prim.Native.Nat.{ℕ, ◌≤◌, ◌<◌, zero-le}
+use Prim.Native.Nat.{ℕ, ◌≤◌, zero-le}
 use native.Mathlib.Omega.{arith}
 use lib.ListN.{length}
 use Rattle.mem_flash.specs.Flash.{Flash, apply_all}

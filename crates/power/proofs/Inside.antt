@@ -109,8 +109,8 @@ module _ (g : Geometry) (f : Flash) (ad : Admitted g (length f.active) (length f
   -- a page is whole erase units and write units of an image, and a chunk whole write units
   units : (a : Area) → Image a → (page g % unit_of g a ≡ 0) × (page g % write_unit g a ≡ 0) × (g.b % write_unit g a ≡ 0)
   unfolding unit_of write_unit
-  units active i = (ad.page-ea, ad.page-wa, ad.chunk-wa)
-  units dfu i = (ad.page-ed, ad.page-wd, ad.chunk-wd)
+  units active i = (ad.page_ea, ad.page_wa, ad.chunk_wa)
+  units dfu i = (ad.page_ed, ad.page_wd, ad.chunk_wd)
   units state i = absurd i
 
   word_within : (i : ℕ) (v : ℕ) → i * g.state.ws + g.state.ws ≤ length f.state
@@ -125,7 +125,7 @@ module _ (g : Geometry) (f : Flash) (ad : Admitted g (length f.active) (length f
   unfolding copy_ops fill_ops mark_op
   copy_within c h l at =
       let u = units c.to at.image in
-      let whole : page g / g.b * g.b ≡ page g = even_times (page g) g.b ad.page-b in
+      let whole : page g / g.b * g.b ≡ page g = even_times (page g) g.b ad.page_b in
       within_append
       (within_append
       (erase_within g f c.to (c.target * page g) (page g) (even_many _ (page g) c.target u.0) at.target)
@@ -150,19 +150,19 @@ module _ (g : Geometry) (f : Flash) (ad : Admitted g (length f.active) (length f
 
   active_length : N * page g ≡ length f.active
   unfolding page_count pages
-  active_length = even_times (length f.active) (page g) ad.active-pages
+  active_length = even_times (length f.active) (page g) ad.active_pages
 
   state_length : words g.state.ws (length f.state) * g.state.ws ≡ length f.state
   unfolding words
   state_length =
       div-mul_cancel g.state.ws
-      (dvd_trans g.state.ws (dvd_of_mod-eq-zero g.state.ws ad.unit-words) (dvd_of_mod-eq-zero g.state.es ad.state-units))
+      (dvd_trans g.state.ws (dvd_of_mod-eq-zero g.state.ws ad.unit_words) (dvd_of_mod-eq-zero g.state.es ad.state_units_lem))
 
   -- word i is there for every i below 4N + 3
   word_there : (i : ℕ) → i < boot_words N → i * g.state.ws + g.state.ws ≤ length f.state
   unfolding page_count
   word_there i h =
-      let w : i < words g.state.ws (length f.state) = omega (arith, ad.state-words) in
+      let w : i < words g.state.ws (length f.state) = omega (arith, ad.state_words) in
       omega (arith, pages_le g.state.ws w, state_length)
 
   module _ (k : ℕ) (h : k < N) (i : ℕ) (m : i < 4 * N) where
@@ -170,7 +170,7 @@ module _ (g : Geometry) (f : Flash) (ad : Admitted g (length f.active) (length f
     inside_active = omega (arith, pages_le (page g) h, active_length)
 
     inside_dfu : (k + 1) * page g + page g ≤ length f.dfu
-    inside_dfu = omega (arith, inside_active, ad.dfu-longer)
+    inside_dfu = omega (arith, inside_active, ad.dfu_longer)
 
     mark_there : (2 + i) * g.state.ws + g.state.ws ≤ length f.state
     unfolding boot_words

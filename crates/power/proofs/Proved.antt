@@ -37,7 +37,7 @@ module _ (g : Geometry) (f : Flash) (r : Ready g f) where
   s = sized g f r.marked.admitted
 
   end : mix (page g) (page_count g f) f.dfu (new_dfu (page g) f.active f.dfu) ≡ reverted_dfu g f
-  end = mix_reverted s.paged r.some-page
+  end = mix_reverted s.paged r.some_page
 
   turns : (ks : List ℕ) (k : ℕ) → FirstWhole g ks k (swap_table g f)
       → ByLastCut g ks k (swap_table g f) (reverted g f) (λ u. reverted_part g u f)
@@ -54,7 +54,7 @@ module _ (g : Geometry) (f : Flash) (r : Ready g f) where
   unfolding reverted reverted_part reverted_erased revert_images state_units closed
   power =
       record {
-        swaps = swaps g f r.marked r.some-page;
+        swaps = swaps g f r.marked r.some_page;
         reverts_active = λ ks k w. either g ks k _ _ (λ (u : ℕ). reverted_part g u f) (λ (x : Flash). x.active ≡ f.active) refl (λ u. refl) (turns ks k w);
         reverts_dfu = λ ks k w. either g ks k _ _ (λ (u : ℕ). reverted_part g u f) (λ (x : Flash). x.dfu ≡ (reverted g f).dfu) refl (λ u. refl) (turns ks k w);
         reverts = turns;
@@ -62,13 +62,13 @@ module _ (g : Geometry) (f : Flash) (r : Ready g f) where
             ap (closed f.active (reverted_dfu g f))
             (ap (λ (n : ℕ). blank (cell g.state) n (revert_marks g.state (page_count g f) (length f.state))) s.units
             ∙ blank_all (cell g.state) (length f.state) (revert_marks g.state (page_count g f) (length f.state)) marks_size);
-        swap_soon = swap_soon g f r.marked r.some-page;
+        swap_soon = swap_soon g f r.marked r.some_page;
         revert_soon = revert_soon g f r.marked (reverted_dfu g f) end;
         revert_sooner = revert_sooner g f r.marked (reverted_dfu g f) end;
-        swap_gains = swap_gains g f r.marked r.some-page;
-        swap_stays = swap_stays g f r.marked r.some-page;
+        swap_gains = swap_gains g f r.marked r.some_page;
+        swap_stays = swap_stays g f r.marked r.some_page;
         revert_gains = back_gains g f r.marked (reverted_dfu g f) end;
         revert_stays = back_stays g f r.marked (reverted_dfu g f) end;
-        swap_never = swap_never g f r.marked r.some-page;
-        revert_never = back_never g f r.marked (reverted_dfu g f) end r.some-page;
+        swap_never = swap_never g f r.marked r.some_page;
+        revert_never = back_never g f r.marked (reverted_dfu g f) end r.some_page;
       }

@@ -79,7 +79,7 @@ module _ (g : Geometry) (f : Flash) (m : Marked g f) (R : List ℕ)
 
   back : table_at g f N N (4 * N) ≡ revert_end g f R
   unfolding stage_table closing closed
-  back = flash_path (mix_all_active s.paged (swapped_active f) im.active-same) same refl
+  back = flash_path (mix_all_active s.paged (swapped_active f) im.active_same) same refl
 
   way_back : Way g N S (2 * N) (swap_table g f) (revert_from N 0 (2 * N)) (revert_end g f R)
   way_back =
@@ -109,7 +109,7 @@ module _ (g : Geometry) (f : Flash) (m : Marked g f) (R : List ℕ)
 
   pub admits_swapped : Admits g (swap_table g f)
   unfolding swap_table new_dfu
-  admits_swapped = rw (im.active-same, im.dfu-same, swapped_size) m.admitted
+  admits_swapped = rw (im.active_same, im.dfu_same, swapped_size) m.admitted
 
   abbrev Back : Flash → ℕ → Type 0
   Back = Turning course

@@ -96,7 +96,7 @@ module _ (g : Geometry) (f : Flash) (a : Admits g f) where
 
   enough : boot_words N ≤ words g.state.ws (length f.state)
   unfolding page_count
-  enough = ad.state-words
+  enough = ad.state_words
 
   some_word : 0 < g.state.ws
   some_word = ad.numbers.ws.some
@@ -114,7 +114,7 @@ module _ (g : Geometry) (f : Flash) (a : Admits g f) where
       )
 
   whole_units : length f.state / g.state.es * g.state.es ≡ length f.state
-  whole_units = even_times (length f.state) g.state.es ad.state-units
+  whole_units = even_times (length f.state) g.state.es ad.state_units_lem
 
   -- a confirmation that is through: the state area reads Boot
   confirm_through : read_state g.state f.state ≡ Swap → confirming g.state N f.state ≡ true

@@ -45,13 +45,13 @@ module _ (g : Geometry) (f : Flash) (m : Marked g f) where
   start_sized = sized g f m.admitted
 
   pub start_images : Images (page g) N f.active f.dfu (swapped_active f) (swapped_dfu g f)
-  start_images = images start_sized.paged m.active-bytes m.dfu-bytes
+  start_images = images start_sized.paged m.active_bytes m.dfu_bytes
 
   -- the first table is the flash itself, and the swap's last one the swap table
   start_table : table_at g f N (suc N) 0 ≡ f
   unfolding stage_table Fresh
   start_table =
-      flash_path (mix_all_active start_sized.paged (swapped_active f) start_images.active-same)
+      flash_path (mix_all_active start_sized.paged (swapped_active f) start_images.active_same)
       (mix_all_dfu start_sized.paged)
       (sym (fresh_marks g.state (mark_room g f)) ∙ ap (magic_area g.state Swap) (sym start_sized.state) ∙ sym m.fresh)
 

@@ -64,7 +64,7 @@ module _ (g : Geometry) (f : Flash) (ready : Ready g f) where
       let a = admitted g _ _ _ ready.marked.admitted in
       let N : ℕ = pages g (length f.active) in
       let w : ℕ = g.state.ws in
-      let enough : (2 + 2 * N) * w ≤ length f.state / w * w = mul-le-mul_right w (omega (arith, a.state-words)) in
+      let enough : (2 + 2 * N) * w ≤ length f.state / w * w = mul-le-mul_right w (omega (arith, a.state_words)) in
       ap (λ (n : ℕ). n / g.state.es)
       (marks_length g.state N (length f.state) (omega (arith, enough, div-mul-le_self (length f.state) w)))
 
@@ -87,8 +87,8 @@ module _ (g : Geometry) (f : Flash) (ready : Ready g f) where
     reverts_at =
         let p = power g f ready in
         record {
-          active = ap (λ (x : Flash). x.active) l.leaves ∙ p.reverts-active _ _ l.first;
-          dfu = ap (λ (x : Flash). x.dfu) l.leaves ∙ p.reverts-dfu _ _ l.first;
+          active = ap (λ (x : Flash). x.active) l.leaves ∙ p.reverts_active _ _ l.first;
+          dfu = ap (λ (x : Flash). x.dfu) l.leaves ∙ p.reverts_dfu _ _ l.first;
           state = ended (p.reverts _ _ l.first);
         }
 

@@ -72,7 +72,7 @@ module _ (g : Geometry) (f : Flash) (m : Marked g f) where
   read_makes es r =
       let b = read_made g (swap_from N 0) start_told es r in
       let s = from_start b.budgets b.left in
-      record { budgets = b.budgets; in_swap = s.in-swap; leaves = ap written (s.log ∙ b.made) }
+      record { budgets = b.budgets; in_swap = s.in_swap; leaves = ap written (s.log ∙ b.made) }
 
   -- and what was made is read
   makes_read : (ks : List ℕ) → InSwap g ks f → reads g (swap_from N 0) (map entry_of (joined g ks f)) ≡ true
@@ -100,7 +100,7 @@ module _ (g : Geometry) (la ld ls : ℕ) (log : List ℕ) (even : length log % 4
     pub makes_yes : Makes g log f → reads g (swap_from (pages g la) 0) entries ≡ true
     makes_yes k =
         let e : map entry_of (joined g k.budgets f) ≡ entries = written_once _ _ (k.leaves ∙ sym back) in
-        ap₂ (λ (n : ℕ) (es : List Entry). reads g (swap_from n 0) es) count (sym e) ∙ makes_read g f s.marked k.budgets k.in-swap
+        ap₂ (λ (n : ℕ) (es : List Entry). reads g (swap_from n 0) es) count (sym e) ∙ makes_read g f s.marked k.budgets k.in_swap
 
 -- a log that is not whole entries is none
 uneven_none : {g : Geometry} {log : List ℕ} {f : Flash} → Makes g log f → (length log % 4 ≡ 0 → ⊥) → ⊥
@@ -199,10 +199,10 @@ reader_fits g la ld ls {p} e d =
     record {
       page = d;
       numbers = a.numbers;
-      images = omega (arith, div-mul-le_self la p, a.dfu-longer, a.dfu-most, d);
+      images = omega (arith, div-mul-le_self la p, a.dfu_longer, a.dfu_most, d);
       marks =
-          let m : 2 + (0 + 2 * (la / p)) ≤ ls / g.state.ws = omega (arith, n, a.state-words) in
-          omega (arith, mul-le-mul_right g.state.ws m, div-mul-le_self ls g.state.ws, a.state-most);
+          let m : 2 + (0 + 2 * (la / p)) ≤ ls / g.state.ws = omega (arith, n, a.state_words) in
+          omega (arith, mul-le-mul_right g.state.ws m, div-mul-le_self ls g.state.ws, a.state_most);
     }
 
 -- what they tell, with N and the entries as the definitions have them

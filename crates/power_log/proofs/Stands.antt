@@ -186,7 +186,7 @@ module _ {g : Geometry} (whole : Whole g) (N S : ℕ) (h : Flash) where
   runs_by (k ∷ ks) cs now a s l =
       let r = runs_by ks (left_by g k cs) (ran g k now) (admits_ran g k now a) (stand_run s l.0 a k) l.1 in
       record {
-        in_swap = (swaps_stand s l.0, r.in-swap);
+        in_swap = (swaps_stand s l.0, r.in_swap);
         log = map-append entry_of (done g k now) (joined g ks (ran g k now)) ∙ ap₂ ◌++◌ (stand_log s l.0 k) r.log;
         leaves = r.leaves;
       }

@@ -73,7 +73,7 @@ module _ {g : Geometry} {c : Copy} {f now : Flash} (whole : Whole g) (fits : Fit
   source_long : c.source * page g + page g ≤ length (source_of c.to now)
   source_long =
       subst (λ (l : List ℕ). c.source * page g + page g ≤ length l)
-      (sym (ap (source_of c.to) near.same ∙ source_placed c.to near.held f fits.image)) fits.inside-source
+      (sym (ap (source_of c.to) near.same ∙ source_placed c.to near.held f fits.image)) fits.inside_source
 
   mark_log : map entry_of (mark_op g.state c.mark ∷ []) ≡ up_to s (0 + (s.units + s.chunks)) 1
   unfolding mark_op entry_of area_number up_to step_of step_for

@@ -157,7 +157,7 @@ tells g f m ks i =
 pub names : (g : Geometry) (f : Flash) → Marked g f → Names g f
 names g f m es k =
     let e : map entry_of (joined g k.budgets f) ≡ es = written_once _ _ k.leaves in
-    let t = tells g f m k.budgets k.in-swap in
+    let t = tells g f m k.budgets k.in_swap in
     (t.progress ∙ ap whole_steps e, λ n. t.swapped (ap whole_steps e ∙ n))
 
 yes_only : (r : LogAnswer) → answer_yes r ≡ 1 → r ≡ Yes
@@ -185,7 +185,7 @@ any_images g la ld ls f h s u ks i =
     let l = subst (λ (n : ℕ). StepsLeft g ks (swap_from n 0)) e (start_left g f s.marked ks i) in
     let a = start_runs g f s.marked ks i in
     let b = from_start g h u.marked ks l in
-    record { in_swap = b.in-swap; log = a.log ∙ ap (λ (n : ℕ). budget_log g ks (swap_from n 0)) e ∙ sym b.log }
+    record { in_swap = b.in_swap; log = a.log ∙ ap (λ (n : ℕ). budget_log g ks (swap_from n 0)) e ∙ sym b.log }
 
 -- ---- single logs
 
@@ -210,7 +210,7 @@ unfolding InSwap joined written Swapping
 edges g f =
     record {
       empty = record { budgets = []; in_swap = tt; leaves = refl };
-      no_page = λ e log k. sym k.leaves ∙ none e k.budgets k.in-swap;
+      no_page = λ e log k. sym k.leaves ∙ none e k.budgets k.in_swap;
       known = λ log k. (map entry_of (joined g k.budgets f), all_known (joined g k.budgets f), k.leaves);
     }
   where

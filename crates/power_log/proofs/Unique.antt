@@ -45,7 +45,7 @@ module _ (g : Geometry) (la ld ls : ℕ) (e : boot_refusal g la ld ls ≡ 0) whe
   unfolding magic_area pages words boot_words
   plain_state =
       let a = admitted g la ld ls e in
-      let one : 1 ≤ ls / g.state.ws = omega (arith, a.state-words) in
+      let one : 1 ≤ ls / g.state.ws = omega (arith, a.state_words) in
       let fits : g.state.ws ≤ ls = omega (arith, mul-le-mul_right g.state.ws one, div-mul-le_self ls g.state.ws) in
       simp (length-append, length-replicate) (omega (arith, fits))
 

@@ -5,10 +5,10 @@ use mathlib.Core.Bool.{Bool, true, false}
 use mathlib.Core.List.{List, [], ◌∷◌}
 use Prim.Native.Nat.{ℕ, zero, suc, ◌+◌, ◌-◌, ◌*◌, ◌/◌, ◌≤◌, ◌<◌}
 use native.Mathlib.Numerals.{add-one}
-use native.Mathlib.Nat.{sub-zero, le_of_suc-le-suc, not-suc-le-zero, mul-le-mul_right, div-mul-le_self}
+use native.Mathlib.Nat.{sub-zero, mul-le-mul_right, div-mul-le_self}
 use native.Mathlib.Decide.{dec_lt}
 use native.Mathlib.Omega.{arith}
-use lib.ListN.{length, take, drop, replicate, length-drop}
+use lib.ListN.{length, take, drop, replicate}
 use lib.Seq.{drop_at, length-take-le}
 use borrow.Author.Tests.{ne_eqb}
 use Rattle.state.specs.declared.Cell.{Cell}

@@ -1,5 +1,6 @@
 // What the calls answer. The definitions in specs/ say, for every call, which answer and which bytes are right.
 #![tactic(auto)]
+
 use geometry::Refusal;
 use state::State;
 

@@ -3,6 +3,7 @@
 // A word that an area does not have whole is what there is of it, so nothing is asked of the caller; but where the search is to begin
 // there must be a mark.
 #![tactic(auto)]
+
 ghost use Rattle.std.specs.Prelude.{◌≡◌, ◌+◌, ◌-◌, ◌*◌, ◌≤◌, ◌<◌, length};
 ghost use Rattle.state.specs.Magic.{throughout};
 ghost use Rattle.geometry.specs.Geometry.{words};

@@ -226,7 +226,7 @@ module _ {g : Geometry} {N t : ℕ} {A R : List ℕ} {f₀ : Flash} (course : Co
   void_reads =
       record {
         swap = reads_swap g.state course.ws (marked cells) (4 * N) (t - 4 * N) (omega (arith, course.room));
-        paged = ap (λ (l : ℕ). l / page g) course.active ∙ mul-div_cancel N course.page-some;
+        paged = ap (λ (l : ℕ). l / page g) course.active ∙ mul-div_cancel N course.page_some;
         sized = state_size g A R t (4 * N) course.room (marked cells);
         done = progress_void g.state course.ws (4 * N) (t - 4 * N) (omega (arith, course.room));
         settled =

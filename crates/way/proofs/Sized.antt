@@ -42,17 +42,17 @@ sized g f r =
     let p : 0 < page g = page_some a.numbers in
     let whole : Whole g = whole_page a in
     let active : length f.active / page g * page g ≡ length f.active =
-    even_times (length f.active) (page g) a.active-pages in
+    even_times (length f.active) (page g) a.active_pages in
     let full : length f.state / g.state.ws * g.state.ws ≡ length f.state =
-    div-mul_cancel g.state.ws (dvd_trans g.state.ws (dvd_of_mod-eq-zero g.state.ws a.unit-words)
-    (dvd_of_mod-eq-zero g.state.es a.state-units)) in
+    div-mul_cancel g.state.ws (dvd_trans g.state.ws (dvd_of_mod-eq-zero g.state.ws a.unit_words)
+    (dvd_of_mod-eq-zero g.state.es a.state_units_lem)) in
     let two : length f.state / g.state.ws ≡ 2 + (length f.state / g.state.ws - 2) = omega arith in
     let chunks : 0 < page g / g.b = some_factor (page g / g.b) g.b (page g) whole.chunks p in
-    let e : g.state.es / g.state.ws * g.state.ws ≡ g.state.es = even_times g.state.es g.state.ws a.unit-words in
+    let e : g.state.es / g.state.ws * g.state.ws ≡ g.state.es = even_times g.state.es g.state.ws a.unit_words in
     let n : 1 ≤ g.state.es / g.state.ws = some_factor (g.state.es / g.state.ws) g.state.ws g.state.es e a.numbers.es.some in
     record {
       ws = a.numbers.ws.some;
-      paged = record { some = p; active = sym active; dfu = omega (arith, a.dfu-longer, active) };
+      paged = record { some = p; active = sym active; dfu = omega (arith, a.dfu_longer, active) };
       cost = λ x.
           let to : Area = step_to (progress g.state x.state) in
           let u : 0 < page g / unit_of g to =
@@ -60,7 +60,7 @@ sized g f r =
           omega arith;
       whole = whole;
       state = sym full ∙ ap (λ (n : ℕ). n * g.state.ws) two;
-      units = even_times (length f.state) g.state.es a.state-units;
+      units = even_times (length f.state) g.state.es a.state_units_lem;
       unit = omega (arith, e, mul-le-mul_right g.state.ws n);
-      room = omega (arith, a.state-words);
+      room = omega (arith, a.state_words);
     }

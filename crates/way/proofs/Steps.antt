@@ -33,11 +33,11 @@ pub record Whole (g : Geometry) : Type 0 where
 
 pub whole_page : {g : Geometry} {la ld ls : ℕ} → Admitted g la ld ls → Whole g
 unfolding unit_of
-whole_page {g} ad = record { chunks = even_times (page g) g.b ad.page-b; units = units }
+whole_page {g} ad = record { chunks = even_times (page g) g.b ad.page_b; units = units }
   where
     units : (a : Area) → Image a → page g / unit_of g a * unit_of g a ≡ page g
-    units active i = even_times (page g) g.ea ad.page-ea
-    units dfu i = even_times (page g) g.ed ad.page-ed
+    units active i = even_times (page g) g.ea ad.page_ea
+    units dfu i = even_times (page g) g.ed ad.page_ed
     units state i = absurd i
 
 -- what the step c may count on at the flash f
@@ -101,14 +101,14 @@ module _ {g : Geometry} {c : Copy} {f now : Flash} (whole : Whole g) (fits : Fit
       record {
         units = whole.units c.to fits.image;
         chunks = whole.chunks;
-        inside = fits.inside-target;
+        inside = fits.inside_target;
         beside = near.beside;
       }
 
   fills_whole : apply_all fills start
       ≡ placed c.to (with_page (page g) c.target (page_at (page g) c.source (source_of c.to f)) (area_of c.to f)) f
   unfolding with_page page_at
-  fills_whole = fill_whole (cell g.state) fillable (c.source * page g) (source_of c.to f) c.to f fits.bytes fits.inside-source
+  fills_whole = fill_whole (cell g.state) fillable (c.source * page g) (source_of c.to f) c.to f fits.bytes fits.inside_source
 
   fills_near : Near g c f (apply_all fills start)
   fills_near = fill_held (cell g.state) fillable (c.source * page g) (source_of c.to f) c.to f

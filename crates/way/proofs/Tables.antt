@@ -108,10 +108,10 @@ module _ (g : Geometry) (N t : ℕ) (A D A' D' : List ℕ) (ws : 0 < g.state.ws)
   at = stage_table g A D A' D' t
 
   active_length : (c : ℕ) → c ≤ N → length (mix P c A A') ≡ N * P
-  active_length c h = length_mix P c A A' im.active-same (omega (arith, mul-le-mul_right P h, im.active)) ∙ im.active
+  active_length c h = length_mix P c A A' im.active_same (omega (arith, mul-le-mul_right P h, im.active)) ∙ im.active
 
   dfu_length : (d : ℕ) → d ≤ suc N → length (mix P d D D') ≡ length D
-  dfu_length d h = length_mix P d D D' im.dfu-same (omega (arith, mul-le-mul_right P h, suc-mul N P, im.dfu))
+  dfu_length d h = length_mix P d D D' im.dfu_same (omega (arith, mul-le-mul_right P h, suc-mul N P, im.dfu))
 
   pub table_reads : (c d n : ℕ) → c ≤ N → n < t → Reads g N ((2 + t) * g.state.ws) n (at c d n)
   unfolding stage_table page_count pages
@@ -138,7 +138,7 @@ module _ (g : Geometry) (N t : ℕ) (A D A' D' : List ℕ) (ws : 0 < g.state.ws)
         fits =
             record {
               image = tt;
-              bytes = bytes_mix P c A A' im.active-bytes im.active-bytes';
+              bytes = bytes_mix P c A A' im.active_bytes im.active_bytes';
               inside_source = rw (active_length c hc) (pages_le P hs);
               inside_target = rw (dfu_length d hd) fit;
             };
@@ -158,7 +158,7 @@ module _ (g : Geometry) (N t : ℕ) (A D A' D' : List ℕ) (ws : 0 < g.state.ws)
         fits =
             record {
               image = tt;
-              bytes = bytes_mix P d D D' im.dfu-bytes im.dfu-bytes';
+              bytes = bytes_mix P d D D' im.dfu_bytes im.dfu_bytes';
               inside_source = rw (dfu_length d hd) fit;
               inside_target = rw (active_length c hc) (pages_le P hk);
             };
@@ -176,28 +176,28 @@ module _ (g : Geometry) (N t : ℕ) (A D A' D' : List ℕ) (ws : 0 < g.state.ws)
     swap_dfu to =
         leg_dfu (suc k) (suc (suc k)) (suc k) k (suc k) n h (omega arith) h inside_dfu hn to
         (ap (λ (v : List ℕ). with_page P (suc k) v (mix P (suc (suc k)) D D'))
-        (page_mix_left P (suc k) A A' im.active-same (omega (arith, inside_active)) k (omega arith) ∙ sym (im.dfu-page k h))
+        (page_mix_left P (suc k) A A' im.active_same (omega (arith, inside_active)) k (omega arith) ∙ sym (im.dfu_page k h))
         ∙ mix_down P (suc k) D D' inside_dfu)
 
     swap_active : active ≡ step_to n → Leg g N ((2 + t) * g.state.ws) n (to_active n k k) (at (suc k) (suc k) n) (at k (suc k) (suc n))
     swap_active to =
         leg_active (suc k) k (suc k) k k n h (omega arith) (omega (arith, inside_dfu)) h hn to
         (ap (λ (v : List ℕ). with_page P k v (mix P (suc k) A A'))
-        (page_mix_left P (suc k) D D' im.dfu-same (omega (arith, inside_dfu)) k (omega arith) ∙ sym (im.active-page k h))
+        (page_mix_left P (suc k) D D' im.dfu_same (omega (arith, inside_dfu)) k (omega arith) ∙ sym (im.active_page k h))
         ∙ mix_down P k A A' inside_active)
 
     revert_dfu : dfu ≡ step_to n → Leg g N ((2 + t) * g.state.ws) n (to_dfu n k k) (at k k n) (at k (suc k) (suc n))
     revert_dfu to =
         leg_dfu k k (suc k) k k n (omega arith) (omega arith) h (omega (arith, inside_dfu)) hn to
         (ap (λ (v : List ℕ). with_page P k v (mix P k D D'))
-        (page_mix_right P k A A' im.active-same (omega (arith, inside_active)) k (omega arith) ∙ im.active-page k h)
+        (page_mix_right P k A A' im.active_same (omega (arith, inside_active)) k (omega arith) ∙ im.active_page k h)
         ∙ mix_up P k D D' (omega (arith, inside_dfu)))
 
     revert_active : active ≡ step_to n → Leg g N ((2 + t) * g.state.ws) n (to_active n (suc k) k) (at k (suc k) n) (at (suc k) (suc k) (suc n))
     revert_active to =
         leg_active k (suc k) (suc k) (suc k) k n (omega arith) (omega arith) inside_dfu h hn to
         (ap (λ (v : List ℕ). with_page P k v (mix P k A A'))
-        (page_mix_right P (suc k) D D' im.dfu-same (omega (arith, inside_dfu)) (suc k) (omega arith) ∙ im.dfu-page k h)
+        (page_mix_right P (suc k) D D' im.dfu_same (omega (arith, inside_dfu)) (suc k) (omega arith) ∙ im.dfu_page k h)
         ∙ mix_up P k A A' inside_active)
 
   -- the whole swap, from page k - 1 down

@@ -13,7 +13,7 @@ div-page-count : tie.Need-nonzero-div-page-count
 div-page-count c = omega (arith, page_some c.before.before.before.before.requires.numbers)
 
 task-requires : tie.Need-task-requires
-task-requires c κs = counts_fit _ _ c.before.before.before.before.before.requires.active-most
+task-requires c κs = counts_fit _ _ c.before.before.before.before.before.requires.active_most
 
 enum_told : tie.Need-enum-told
 enum_told c = c.match.keys1

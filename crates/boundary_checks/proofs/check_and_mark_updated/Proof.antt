@@ -19,7 +19,7 @@ same_length c = search rules
 returns : tie.Need-returns
 returns c =
     let m = c.before.before.before in
-    tells (rw m.before.before.new.ensures.0 at m.check-and-mark-updated.ensures) c.pack.ensures
+    tells (rw m.before.before.new.ensures.0 at m.check_and_mark_updated_lem.ensures) c.pack.ensures
 
 pub check-and-mark-updated-spec : {M : Type 1} → statement M
 check-and-mark-updated-spec =

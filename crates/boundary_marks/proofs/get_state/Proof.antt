@@ -15,7 +15,7 @@ pack-requires : tie.Need-pack-requires
 pack-requires c κs = search rules
 
 returns : tie.Need-returns
-returns c = packs _ c.pack.ensures (rw c.before.before.updater.ensures at c.before.get-state.ensures)
+returns c = packs _ c.pack.ensures (rw c.before.before.updater.ensures at c.before.get_state_lem.ensures)
 
 pub get-state-spec : {M : Type 1} → statement M
 get-state-spec =

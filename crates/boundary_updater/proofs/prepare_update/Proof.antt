@@ -18,7 +18,7 @@ same_length : tie.Need-same-length
 same_length c = search rules
 
 returns : tie.Need-returns
-returns c = tells (rw c.before.before.before.before.before.updater.ensures.0 at c.before.before.before.prepare-update.ensures.did) c.pack.ensures
+returns c = tells (rw c.before.before.before.before.before.updater.ensures.0 at c.before.before.before.prepare_update_lem.ensures.did) c.pack.ensures
 
 pub prepare-update-spec : {M : Type 1} → statement M
 prepare-update-spec =

@@ -18,7 +18,7 @@ same_length : tie.Need-same-length
 same_length c = search rules
 
 returns : tie.Need-returns
-returns c = tells_read _ (rw c.before.before.before.before.before.updater.ensures.0 at c.before.before.before.read-dfu.ensures) c.pack.ensures
+returns c = tells_read _ (rw c.before.before.before.before.before.updater.ensures.0 at c.before.before.before.read_dfu_lem.ensures) c.pack.ensures
 
 pub read-dfu-spec : {M : Type 1} → statement M
 read-dfu-spec =

@@ -21,7 +21,7 @@ same_length : tie.Need-same-length
 same_length c = search rules
 
 returns : tie.Need-returns
-returns c = told_write _ c.before.before.before.before.before.before.before.updater.ensures c.before.before.before.before.before.write-firmware.ensures c.before.last-number.ensures c.pack.ensures
+returns c = told_write _ c.before.before.before.before.before.before.before.updater.ensures c.before.before.before.before.before.write_firmware_lem.ensures c.before.last-number.ensures c.pack.ensures
 
 pub write-firmware-spec : {M : Type 1} → statement M
 write-firmware-spec =
