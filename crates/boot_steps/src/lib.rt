@@ -2,6 +2,7 @@
 // by value where the Rust has self. A layer within the boot loader: only `boot_choice` calls it, and its proof meets what these
 // functions ask.
 #![tactic(auto)]
+
 ghost use Rattle.std.specs.Prelude.{◌≡◌, ◌+◌, ◌*◌, ◌≤◌, ◌<◌, ◌^◌, length};
 ghost use Rattle.std.proofs.Math.Seq.{slice};
 ghost use Rattle.geometry.specs.Geometry.{pages};

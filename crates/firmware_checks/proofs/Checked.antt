@@ -1,20 +1,16 @@
 -- Request No. 7 of 02: an image with another sum is never marked. Assumes nothing.
 use mathlib.Core.Path.{◌≡◌, refl, ap, sym, ◌∙◌}
-use mathlib.Core.Bool.{Bool, true, false, not}
 use mathlib.Core.Logic.{◌⊎◌, inl, inr, ◌≢◌}
-use Prim.Native.Nat.{ℕ, ◌≤◌, ◌<◌}
-use native.Mathlib.Omega.{arith}
-use lib.Dec.{eqb}
-use lib.ListN.{length, take}
+use Prim.Native.Nat.{ℕ}
+use lib.ListN.{take}
 use borrow.Author.Tests.{eqb-true, not-false}
 use Rattle.crc32.specs.Crc.{crc}
 use Rattle.geometry.specs.declared.Sizes.{Sizes}
-use Rattle.geometry.specs.Refusals.{checked_refusal}
 use Rattle.geometry.proofs.Rows.{checked_none}
 use Rattle.mem_flash.specs.Flash.{Flash}
 use Rattle.rules.specs.declared.Answer.{Answer}
-use Rattle.rules.specs.Calls.{Report, Call, reported, report, left, Did}
-use Rattle.rules.specs.FirmwareUpdater.{pending, past_end, wrong_sum, updater_call, updater_mark, updater_mark_updated, check_and_mark_updated}
+use Rattle.rules.specs.Calls.{Report, reported, Did}
+use Rattle.rules.specs.FirmwareUpdater.{wrong_sum, updater_call, updater_mark, updater_mark_updated, check_and_mark_updated}
 use Rattle.rules.proofs.Endings.{Ending, refused, done, cut, ending, is_cut, left_refused, checked_rows, same_call}
 use Rattle.firmware_checks.specs.Checked.{Agree, Checked}
 

@@ -1,6 +1,7 @@
 // The verdict of check_and_mark_updated (02, No. 7): the updater's rows, and the sum of the bytes after them.
 // An inner layer: nothing outside calls it but the updater.
 #![tactic(auto)]
+
 ghost use Rattle.std.specs.Prelude.{◌≡◌, length};
 ghost use Rattle.geometry.specs.Refusals.{verdict, checked_refusal};
 ghost use Rattle.rules.specs.FirmwareUpdater.{pending, past_end, wrong_sum};

@@ -1,6 +1,7 @@
 // The updater's call hash (02, No. 8): the digest of the first bytes of DFU, taken in pieces where they stand. An inner layer: the updater
 // hands on to `hash`.
 #![tactic(auto)]
+
 ghost use Rattle.std.specs.Prelude.{◌≡◌, false, [], ◌≤◌, ◌<◌, length, take};
 ghost use Rattle.geometry.specs.Refusals.{verdict, updater_refusal};
 ghost use Rattle.mem_flash.specs.Run.{flash};

@@ -1,6 +1,7 @@
 // The firmware state: the part of firmware_updater/blocking.rs that knows the state area alone. The area is lent to each call,
 // its sizes stand by value, and a budget of operations stands for the power supply.
 #![tactic(auto)]
+
 ghost use Rattle.std.specs.Prelude.{◌≡◌, []};
 ghost use Rattle.state.specs.declared.State.{State};
 ghost use Rattle.mem_flash.specs.Run.{flash};

@@ -15,7 +15,6 @@ use Rattle.state.specs.Choice.{pick}
 use Rattle.geometry.specs.declared.Geometry.{Geometry}
 use Rattle.geometry.specs.Geometry.{pages}
 use Rattle.mem_flash.specs.Flash.{Area, active, dfu, state, Flash, Op, erase, write}
-use Rattle.rules.specs.StateArea.{progress}
 use Rattle.rules.specs.Steps.{Copy, swap_from, page_count}
 use Rattle.rules.specs.Power.{swap_table}
 use Rattle.way.proofs.Tables.{swap_count}

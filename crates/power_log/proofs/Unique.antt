@@ -11,7 +11,7 @@ use Rattle.state.specs.OneResult.{OneResult}
 use Rattle.geometry.specs.declared.Geometry.{Geometry}
 use Rattle.geometry.specs.declared.Refusal.{Refusal}
 use Rattle.geometry.specs.Geometry.{pages, words}
-use Rattle.geometry.specs.Refusals.{number, boot_refusal, boot_words}
+use Rattle.geometry.specs.Refusals.{boot_refusal, boot_words}
 use Rattle.geometry.proofs.Rows.{admitted}
 use Rattle.geometry.proofs.Tests.{number_some}
 use Rattle.geometry.proofs.Unique.{refusal_of, refusal_back}

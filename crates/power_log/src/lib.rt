@@ -1,6 +1,7 @@
 // The judge of power logs: 02, No. 12. A recorder that is not trusted lists flash operations; the judge says whether runs of
 // prepare_boot from a freshly marked state can have left this list, whatever the budgets and the images were.
 #![tactic(auto)]
+
 ghost use Rattle.power_log.specs.Log.{Judged};
 
 use geometry::{Geometry, Refusal, Verdict};
