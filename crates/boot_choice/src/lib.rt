@@ -1,6 +1,7 @@
 // What a boot does: the task that its plan gives it. The `Geometry` is by value where the Rust has self. A layer within the boot
 // loader: only `boot_loader` calls it, and its proof meets what these functions ask.
 #![tactic(auto)]
+
 ghost use Rattle.std.specs.Prelude.{◌≡◌, ◌++◌, ◌*◌, ◌≤◌, length};
 ghost use Rattle.geometry.specs.Geometry.{pages};
 ghost use Rattle.geometry.specs.Admitted.{Admitted};

@@ -1,6 +1,7 @@
 // The firmware state's calls over plain numbers: the sizes in a row, and the answer packed into one number; and a state by its number.
 // The C boundary hands them out.
 #![tactic(auto)]
+
 ghost use Rattle.std.specs.Prelude.{◌≡◌, []};
 ghost use Rattle.state.specs.declared.State.{State};
 ghost use Rattle.state.specs.Magic.{state_number, state_of};

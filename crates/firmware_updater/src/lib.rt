@@ -1,6 +1,7 @@
 // The firmware updater: firmware_updater/blocking.rs. Its marks are those of the firmware state, by way of `firmware_marks`. The areas are lent to each call, the sizes stand
 // by value in the records, and a budget of operations stands for the power supply.
 #![tactic(auto)]
+
 ghost use Rattle.std.specs.Prelude.{◌≡◌, [], length};
 ghost use Rattle.mem_flash.specs.Run.{flash};
 ghost use Rattle.rules.specs.declared.Sector.{Sector};

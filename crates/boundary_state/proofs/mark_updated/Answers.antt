@@ -1,0 +1,7 @@
+-- `mark_updated` meets its contract: the promise of the firmware state, with the caller's sizes.
+-- Assumes nothing.
+use Rattle.packed.proofs.Packs.{tells}
+use Rattle.boundary_state.proofs.mark_updated.Goals as goal
+
+pub returns : goal.returns
+returns c = tells (rw c.new.ensures at c.mark_updated.ensures) c.pack.ensures

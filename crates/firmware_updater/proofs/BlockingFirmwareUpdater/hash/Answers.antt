@@ -1,0 +1,5 @@
+-- `hash` hands on. Assumes nothing.
+use Rattle.firmware_updater.proofs.BlockingFirmwareUpdater.hash.Goals as goal
+
+pub returns : goal.returns
+returns c = c.hash.ensures
