@@ -1,6 +1,7 @@
 // The boot loader: boot_loader.rs. The three areas are lent to each call, the sizes are a `Geometry` by value, and a budget
 // of operations stands for the power supply.
 #![tactic(auto)]
+
 ghost use Rattle.std.specs.Prelude.{◌≡◌};
 ghost use Rattle.mem_flash.specs.Run.{flash};
 ghost use Rattle.rules.specs.Calls.{reported, report, Did};

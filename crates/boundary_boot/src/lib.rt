@@ -1,5 +1,6 @@
 // The boot loader's calls over plain numbers: the sizes in a row, and the answer packed into one number. The C boundary hands them out.
 #![tactic(auto)]
+
 ghost use Rattle.std.specs.Prelude.{◌≡◌};
 ghost use Rattle.mem_flash.specs.Run.{flash};
 ghost use Rattle.rules.specs.Calls.{report};

@@ -1,6 +1,7 @@
 // The updater's mark with a checked sum (02, No. 7), over plain numbers: the sizes in a row, and the answer packed into one. The C boundary
 // hands it out.
 #![tactic(auto)]
+
 ghost use Rattle.std.specs.Prelude.{◌≡◌, []};
 ghost use Rattle.mem_flash.specs.Run.{flash};
 ghost use Rattle.rules.specs.FirmwareUpdater.{check_and_mark_updated};

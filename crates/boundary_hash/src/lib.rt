@@ -1,5 +1,6 @@
 // The updater's hash over plain numbers: the sizes in a row, and the answer packed into one. The C boundary hands it out.
 #![tactic(auto)]
+
 ghost use Rattle.std.specs.Prelude.{[]};
 ghost use Rattle.mem_flash.specs.Run.{flash};
 ghost use Rattle.packed.specs.Told.{sizes};

@@ -1,6 +1,7 @@
 // The updater's calls that know the state area alone, over plain numbers: the sizes in a row, and the answer packed into one. The C
 // boundary hands them out.
 #![tactic(auto)]
+
 ghost use Rattle.std.specs.Prelude.{◌≡◌, []};
 ghost use Rattle.mem_flash.specs.Run.{flash};
 ghost use Rattle.rules.specs.Calls.{report};

@@ -1,6 +1,7 @@
 // Power cycles: boots one after the other, each with its budget, until one of them is not cut. What demand 3 promises is here the
 // contract of code that makes these boots.
 #![tactic(auto)]
+
 ghost use Rattle.mem_flash.specs.Run.{flash};
 ghost use Rattle.power_cycles.specs.Cycles.{Cycles};
 

@@ -1,0 +1,7 @@
+-- `mark_updated` meets its contract: the updater's promise, with the caller's sizes.
+-- Assumes nothing.
+use Rattle.packed.proofs.Packs.{tells}
+use Rattle.boundary_marks.proofs.mark_updated.Goals as goal
+
+pub returns : goal.returns
+returns c = tells (rw c.updater.ensures at c.mark_updated.ensures) c.pack.ensures

@@ -1,0 +1,7 @@
+-- `prepare_update` meets its contract: the updater's promise, with the caller's sizes.
+-- Assumes nothing.
+use Rattle.packed.proofs.Packs.{tells}
+use Rattle.boundary_updater.proofs.prepare_update.Goals as goal
+
+pub returns : goal.returns
+returns c = tells (rw c.updater.ensures.0 at c.prepare_update-wrote.ensures.did) c.pack.ensures

@@ -1,0 +1,7 @@
+-- `read_dfu` meets its contract: the updater's promise of answer and buffer, with the caller's sizes.
+-- Assumes nothing.
+use Rattle.packed.proofs.Packs.{tells_read}
+use Rattle.boundary_updater.proofs.read_dfu.Goals as goal
+
+pub returns : goal.returns
+returns c = tells_read _ (rw c.updater.ensures.0 at c.read_dfu.ensures) c.pack.ensures

@@ -1,4 +1,0 @@
-pub mod Thin
-pub mod Returned
-pub mod Frame
-pub mod Marks

@@ -1,0 +1,30 @@
+-- `power_cycles::boot_until_whole` meets its contract: each turn of the loop adds one boot to those made, all of which were cut. Demand 3
+-- then follows from the theorem `power`. Assumes nothing.
+use mathlib.Core.Logic.{inl, inr}
+use Prim.Native.Nat.{◌-◌}
+use native.Mathlib.Omega.{arith}
+use borrow.Author.Rules.{rules}
+use lib.ListN.{length}
+use Rattle.mem_flash.specs.Run.{flash}
+use Rattle.power_cycles.proofs.Made.{Cutting, cutting_none, made_next, whole, cut_number}
+use Rattle.power_cycles.proofs.Demand.{cycles}
+use Rattle.power_cycles.proofs.boot_until_whole.Goals as goal
+
+pub loop-runs-init : goal.loop-runs-init
+loop-runs-init c = cutting_none _ _ _
+
+pub loop-runs-preserved : goal.loop-runs-preserved
+loop-runs-preserved c =
+    record {
+      made = made_next c.loop-runs.invariant c.loop-runs-test.true c.prepare_boot-answer.ensures;
+      cut = cut_number c.in-Cut.is;
+      active = search rules;
+      dfu = search rules;
+      state = search rules;
+    }
+
+pub returns-in_default : goal.returns-in_default
+returns-in_default c = cycles (made_next c.loop-runs.invariant c.loop-runs-test.true c.prepare_boot-answer.ensures) (inl (whole _ c.in_default.in_default-own.keys2))
+
+pub returns : goal.returns
+returns c = cycles c.loop-runs.invariant.made (inr (omega arith))
