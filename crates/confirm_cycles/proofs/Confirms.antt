@@ -10,7 +10,6 @@ use Rattle.mem_flash.specs.Flash.{Flash}
 use Rattle.rules.specs.declared.Answer.{Answer}
 use Rattle.rules.specs.StateArea.{read_state}
 use Rattle.rules.specs.Calls.{Report, Call, left, Did}
-use Rattle.power.specs.Power.{runs}
 use Rattle.power.specs.Confirm.{MarkBooted, Confirms}
 use Rattle.power.proofs.Confirmed.{confirmed}
 use Rattle.power_cycles.specs.declared.Booted.{Booted}

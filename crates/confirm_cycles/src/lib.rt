@@ -1,6 +1,7 @@
 // A confirmation and the power cycles after it: mark_booted with a budget, then boots until one of them is not cut. What request No. 5
 // promises of a confirmation that is cut is here the contract of code that makes these calls, with either of the two mark_booted.
 #![tactic(auto)]
+
 ghost use Rattle.state.specs.declared.State.{State};
 ghost use Rattle.mem_flash.specs.Run.{flash};
 ghost use Rattle.rules.specs.FirmwareState.{mark};

@@ -1,8 +1,8 @@
-// The C boundary: every call of the library under a plain name, over pointers, lengths and numbers. Nothing is decided here: each
-// function hands its arguments on to the call over numbers, in one of the crates boundary_.., and promises the same.
-// The functions stand here because an archive has those of its own crate alone.
-// None asks anything of its caller beyond slices that are there: what does not fit is refused by the call.
+// The boundary: every call of the library under a plain name, over slices and numbers. Nothing is decided here: each function hands its
+// arguments on to the call over numbers, in one of the crates boundary_.., and promises the same. The crate embassy_boot_c exports them to C.
+// None asks anything of its caller: what does not fit is refused by the call.
 #![tactic(auto)]
+
 ghost use Rattle.std.specs.Prelude.{◌≡◌, []};
 ghost use Rattle.state.specs.declared.State.{State};
 ghost use Rattle.state.specs.Magic.{state_number, state_of};
@@ -18,8 +18,7 @@ ghost use Rattle.boundary_hash.specs.Told.{ToldHash};
 // ---- boot
 
 // Swaps the images if an update is marked, or undoes the swap if it was not confirmed; answers the state read at entry.
-#[unsafe(no_mangle)]
-pub extern "C" fn eb_prepare_boot(
+pub fn eb_prepare_boot(
     active: &mut [u8],
     dfu: &mut [u8],
     state: &mut [u8],
@@ -41,8 +40,7 @@ pub extern "C" fn eb_prepare_boot(
 }
 
 // The boot loader's reading of the state area. The images' sizes play no part in it.
-#[unsafe(no_mangle)]
-pub extern "C" fn eb_read_state(state: &[u8], es: u32, ws: u32, ev: u32) -> u64
+pub fn eb_read_state(state: &[u8], es: u32, ws: u32, ev: u32) -> u64
     ensures { result ≡ packed (report (get_state (state_sizes es ws ev) state.now) 0) }
 {
     boundary_boot::read_state(state, es, ws, ev)
@@ -50,44 +48,28 @@ pub extern "C" fn eb_read_state(state: &[u8], es: u32, ws: u32, ev: u32) -> u64
 
 // ---- the firmware state
 
-#[unsafe(no_mangle)]
-pub extern "C" fn eb_state_get_state(state: &[u8], es: u32, ws: u32, ev: u32) -> u64
+pub fn eb_state_get_state(state: &[u8], es: u32, ws: u32, ev: u32) -> u64
     ensures { result ≡ packed (report (get_state (state_sizes es ws ev) state.now) 0) }
 {
     boundary_state::get_state(state, es, ws, ev)
 }
 
 // The next boot swaps the images.
-#[unsafe(no_mangle)]
-pub extern "C" fn eb_state_mark_updated(
-    state: &mut [u8],
-    es: u32,
-    ws: u32,
-    ev: u32,
-    budget: u32,
-) -> u64
+pub fn eb_state_mark_updated(state: &mut [u8], es: u32, ws: u32, ev: u32, budget: u32) -> u64
     ensures { Told (mark State.Swap (state_sizes es ws ev) state.old) budget (flash [] [] state.old) (flash [] [] state.new) result }
 {
     boundary_state::mark_updated(state, es, ws, ev, budget)
 }
 
 // The next boot starts the USB update.
-#[unsafe(no_mangle)]
-pub extern "C" fn eb_state_mark_dfu(state: &mut [u8], es: u32, ws: u32, ev: u32, budget: u32) -> u64
+pub fn eb_state_mark_dfu(state: &mut [u8], es: u32, ws: u32, ev: u32, budget: u32) -> u64
     ensures { Told (mark State.DfuDetach (state_sizes es ws ev) state.old) budget (flash [] [] state.old) (flash [] [] state.new) result }
 {
     boundary_state::mark_dfu(state, es, ws, ev, budget)
 }
 
 // The new firmware is confirmed: the next boot does not undo the swap.
-#[unsafe(no_mangle)]
-pub extern "C" fn eb_state_mark_booted(
-    state: &mut [u8],
-    es: u32,
-    ws: u32,
-    ev: u32,
-    budget: u32,
-) -> u64
+pub fn eb_state_mark_booted(state: &mut [u8], es: u32, ws: u32, ev: u32, budget: u32) -> u64
     ensures { Told (mark State.Boot (state_sizes es ws ev) state.old) budget (flash [] [] state.old) (flash [] [] state.new) result }
 {
     boundary_state::mark_booted(state, es, ws, ev, budget)
@@ -95,8 +77,7 @@ pub extern "C" fn eb_state_mark_booted(
 
 // ---- the firmware updater
 
-#[unsafe(no_mangle)]
-pub extern "C" fn eb_updater_get_state(
+pub fn eb_updater_get_state(
     dfu: &[u8],
     state: &[u8],
     ed: u32,
@@ -111,8 +92,7 @@ pub extern "C" fn eb_updater_get_state(
 }
 
 // The next boot swaps the images.
-#[unsafe(no_mangle)]
-pub extern "C" fn eb_updater_mark_updated(
+pub fn eb_updater_mark_updated(
     dfu: &[u8],
     state: &mut [u8],
     ed: u32,
@@ -129,8 +109,7 @@ pub extern "C" fn eb_updater_mark_updated(
 }
 
 // The next boot swaps the images, if the first `length` bytes of DFU have this sum.
-#[unsafe(no_mangle)]
-pub extern "C" fn eb_updater_check_and_mark_updated(
+pub fn eb_updater_check_and_mark_updated(
     dfu: &[u8],
     state: &mut [u8],
     ed: u32,
@@ -149,8 +128,7 @@ pub extern "C" fn eb_updater_check_and_mark_updated(
 }
 
 // The next boot starts the USB update. Not while a swap is pending.
-#[unsafe(no_mangle)]
-pub extern "C" fn eb_updater_mark_dfu(
+pub fn eb_updater_mark_dfu(
     dfu: &[u8],
     state: &mut [u8],
     ed: u32,
@@ -167,8 +145,7 @@ pub extern "C" fn eb_updater_mark_dfu(
 }
 
 // The new firmware is confirmed.
-#[unsafe(no_mangle)]
-pub extern "C" fn eb_updater_mark_booted(
+pub fn eb_updater_mark_booted(
     dfu: &[u8],
     state: &mut [u8],
     ed: u32,
@@ -185,8 +162,7 @@ pub extern "C" fn eb_updater_mark_booted(
 }
 
 // Fills `out` with the bytes of DFU from an offset on.
-#[unsafe(no_mangle)]
-pub extern "C" fn eb_updater_read_dfu(
+pub fn eb_updater_read_dfu(
     dfu: &[u8],
     state: &[u8],
     ed: u32,
@@ -203,8 +179,7 @@ pub extern "C" fn eb_updater_read_dfu(
 }
 
 // Writes data at an offset of DFU, sector by sector. Not while a swap is pending. The memory is the caller's, in `last`.
-#[unsafe(no_mangle)]
-pub extern "C" fn eb_updater_write_firmware(
+pub fn eb_updater_write_firmware(
     dfu: &mut [u8],
     state: &[u8],
     ed: u32,
@@ -224,8 +199,7 @@ pub extern "C" fn eb_updater_write_firmware(
 }
 
 // Erases all of DFU. Not while a swap is pending. The memory isn't touched, so it isn't asked for.
-#[unsafe(no_mangle)]
-pub extern "C" fn eb_updater_prepare_update(
+pub fn eb_updater_prepare_update(
     dfu: &mut [u8],
     state: &[u8],
     ed: u32,
@@ -242,8 +216,7 @@ pub extern "C" fn eb_updater_prepare_update(
 }
 
 // The SHA-512 of the first bytes of DFU, taken in pieces of `chunk` bytes, into the 64 bytes of `out`.
-#[unsafe(no_mangle)]
-pub extern "C" fn eb_updater_hash(
+pub fn eb_updater_hash(
     dfu: &[u8],
     state: &[u8],
     ed: u32,
@@ -263,8 +236,7 @@ pub extern "C" fn eb_updater_hash(
 // ---- states
 
 // The state of a word, by its number.
-#[unsafe(no_mangle)]
-pub extern "C" fn eb_state_from(bytes: &[u8]) -> u32
+pub fn eb_state_from(bytes: &[u8]) -> u32
     ensures { result ≡ state_number (state_of bytes.now) }
 {
     boundary_state::state_from(bytes)

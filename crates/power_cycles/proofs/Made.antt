@@ -1,21 +1,17 @@
 -- One boot more: how the boots made so far (specs/Cycles, `Made`) grow by a call of prepare_boot, and what the last one was. Assumes nothing.
 use mathlib.Core.Path.{◌≡◌, refl, sym, ap, ◌∙◌, subst}
-use mathlib.Core.Logic.{⊎_elim}
 use mathlib.Core.List.{List, [], ◌∷◌, ◌++◌}
 use Prim.Native.Nat.{ℕ, zero, suc, ◌+◌, ◌-◌, ◌<◌}
 use native.Mathlib.Numerals.{add-one}
 use native.Mathlib.Omega.{arith}
 use lib.ListN.{length, take, get_or}
 use lib.Seq.{take-suc}
-use types.Run.{OneOf}
-use denote.Enum.Declared.{tag_of}
 use Rattle.geometry.specs.declared.Geometry.{Geometry}
 use Rattle.geometry.specs.declared.Refusal.TheVariants.{Limit, Page, Area, StateArea, BadState, Range, Checksum}
 use Rattle.geometry.specs.Refusals.{number}
 use Rattle.mem_flash.specs.Flash.{Flash}
 use Rattle.rules.specs.declared.Answer.{Answer}
 use Rattle.rules.specs.declared.Answer.TheVariants.{Found, Done, Refused, Cut as CutAfter}
-use Rattle.rules.specs.contracts.Answer.{the_type}
 use Rattle.rules.specs.Calls.{Report, reported, Did}
 use Rattle.rules.specs.Boot.{prepare_boot}
 use Rattle.power.specs.Power.{answer, ran, Cut, runs, AllCut, FirstWhole}
@@ -109,8 +105,8 @@ found {g} {ks} {f} {f'} {n = suc n} {r = r} m w =
 
 -- ---- the code
 
--- a match with no arm for a cut but `else` tells of the other answers by their place in the enum
-pub whole : (r : Answer) → OneOf (0 ∷ 1 ∷ 2 ∷ []) (tag_of the_type r) → Uncut r
+-- an answer that is no cut
+pub whole : (r : Answer) → ((k : ℕ) → r ≡ CutAfter k → ⊥) → Uncut r
 unfolding reported number
 whole (Found s n) o e = omega arith
 whole (Done n) o e = omega arith
@@ -121,7 +117,7 @@ whole (Refused StateArea) o e = omega arith
 whole (Refused BadState) o e = omega arith
 whole (Refused Range) o e = omega arith
 whole (Refused Checksum) o e = omega arith
-whole (CutAfter n) o e = ⊎_elim (λ x. omega (arith, x)) (λ p. ⊎_elim (λ x. omega (arith, x)) (λ x. omega (arith, x)) p) o
+whole (CutAfter n) o e = o n refl
 
 pub cut_number : {r : Answer} {n : ℕ} → r ≡ CutAfter n → (reported r).number ≡ 7
 unfolding reported

@@ -1,12 +1,9 @@
 -- `power_cycles::boot_until_whole` meets its contract: each turn of the loop adds one boot to those made, all of which were cut. Demand 3
 -- then follows from the theorem `power`. Assumes nothing.
 use mathlib.Core.Logic.{inl, inr}
-use Prim.Native.Nat.{◌-◌}
 use native.Mathlib.Omega.{arith}
 use borrow.Author.Rules.{rules}
-use lib.ListN.{length}
-use Rattle.mem_flash.specs.Run.{flash}
-use Rattle.power_cycles.proofs.Made.{Cutting, cutting_none, made_next, whole, cut_number}
+use Rattle.power_cycles.proofs.Made.{cutting_none, made_next, whole, cut_number}
 use Rattle.power_cycles.proofs.Demand.{cycles}
 use Rattle.power_cycles.proofs.boot_until_whole.Goals as goal
 
@@ -24,7 +21,7 @@ loop-runs-preserved c =
     }
 
 pub returns-in_default : goal.returns-in_default
-returns-in_default c = cycles (made_next c.loop-runs.invariant c.loop-runs-test.true c.prepare_boot-answer.ensures) (inl (whole _ c.in_default.in_default-own.keys2))
+returns-in_default c = cycles (made_next c.loop-runs.invariant c.loop-runs-test.true c.prepare_boot-answer.ensures) (inl (whole _ c.in_default.not-Cut))
 
 pub returns : goal.returns
 returns c = cycles c.loop-runs.invariant.made (inr (omega arith))

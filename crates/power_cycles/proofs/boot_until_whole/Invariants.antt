@@ -1,11 +1,7 @@
-use mathlib.Core.Logic.{inl, inr}
 use Prim.Native.Nat.{◌-◌}
-use native.Mathlib.Omega.{arith}
-use borrow.Author.Rules.{rules}
 use lib.ListN.{length}
 use Rattle.mem_flash.specs.Run.{flash}
-use Rattle.power_cycles.proofs.Made.{Cutting, cutting_none, made_next, whole, cut_number}
-use Rattle.power_cycles.proofs.Demand.{cycles}
+use Rattle.power_cycles.proofs.Made.{Cutting}
 use Rattle.power_cycles.proofs.boot_until_whole.Given as goal
 
 abbrev pub invariant-loop-runs : goal.invariant-loop-runs
