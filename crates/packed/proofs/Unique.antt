@@ -10,15 +10,15 @@ use Rattle.mem_flash.specs.Flash.{Flash}
 use Rattle.rules.specs.Calls.{Call}
 use Rattle.packed.specs.Told.{Told, ToldRead, ToldWrite}
 use Rattle.packed.proofs.state_number.Kinds as state_number_kinds
-use Rattle.packed.proofs.state_number.Reads as state_number_lem
+use Rattle.packed.proofs.state_number.Reads as state_number_reads
 use Rattle.packed.proofs.pack.Kinds as pack_kinds
 use Rattle.packed.proofs.pack.Reads as pack
 use Rattle.packed.proofs.sector.Kinds as sector_kinds
 use Rattle.packed.proofs.sector.Reads as sector
 use Rattle.packed.proofs.last_number.Kinds as last_number_kinds
-use Rattle.packed.proofs.last_number.Reads as last_number_lem
+use Rattle.packed.proofs.last_number.Reads as last_number_reads
 
-pub state_number_unique : OneResult state_number_kinds.ps state_number_kinds.r state_number_lem.Post
+pub state_number_unique : OneResult state_number_kinds.ps state_number_kinds.r state_number_reads.Post
 state_number_unique κs a x y v w p q = (p.0 ∙ sym q.0, refl)
 
 pub pack_unique : OneResult pack_kinds.ps pack_kinds.r pack.Post
@@ -27,7 +27,7 @@ pack_unique κs a x y v w p q = (p ∙ sym q, refl)
 pub sector_unique : OneResult sector_kinds.ps sector_kinds.r sector.Post
 sector_unique κs a x y v w p q = (p ∙ sym q, refl)
 
-pub last_number_unique : OneResult last_number_kinds.ps last_number_kinds.r last_number_lem.Post
+pub last_number_unique : OneResult last_number_kinds.ps last_number_kinds.r last_number_reads.Post
 last_number_unique κs a x y v w p q = (p ∙ sym q, refl)
 
 -- ---- the relations of the boundary

@@ -11,7 +11,7 @@ use Rattle.sha512_bytes.proofs.block_of.Reads as block_of
 use Rattle.sha512_bytes.proofs.with_length.Kinds as with_length_kinds
 use Rattle.sha512_bytes.proofs.with_length.Reads as with_length
 use Rattle.sha512_bytes.proofs.put_all.Kinds as put_all_kinds
-use Rattle.sha512_bytes.proofs.put_all.Reads as put_all_lem
+use Rattle.sha512_bytes.proofs.put_all.Reads as put_all_reads
 
 pub store_unique : OneResult store_kinds.ps store_kinds.r store.Post
 store_unique κs a x y v w p q = (refl, ap (λ (l : List ℕ). (l, (tt, (tt, (tt, tt))))) (p ∙ sym q))
@@ -22,5 +22,5 @@ block_of_unique κs a x y v w p q = (p ∙ sym q, refl)
 pub with_length_unique : OneResult with_length_kinds.ps with_length_kinds.r with_length.Post
 with_length_unique κs a x y v w p q = (p ∙ sym q, refl)
 
-pub put_all_unique : OneResult put_all_kinds.ps put_all_kinds.r put_all_lem.Post
+pub put_all_unique : OneResult put_all_kinds.ps put_all_kinds.r put_all_reads.Post
 put_all_unique κs a x y v w p q = (refl, ap (λ (l : List ℕ). (l, (tt, tt))) (p ∙ sym q))

@@ -11,11 +11,11 @@ use Rattle.state_area.proofs.read.Reads as read
 use Rattle.state_area.proofs.is_valid.Kinds as is_valid_kinds
 use Rattle.state_area.proofs.is_valid.Reads as is_valid
 use Rattle.state_area.proofs.most_marks.Kinds as most_marks_kinds
-use Rattle.state_area.proofs.most_marks.Reads as most_marks_lem
+use Rattle.state_area.proofs.most_marks.Reads as most_marks_reads
 use Rattle.state_area.proofs.first_open.Kinds as first_open_kinds
-use Rattle.state_area.proofs.first_open.Reads as first_open_lem
+use Rattle.state_area.proofs.first_open.Reads as first_open_reads
 use Rattle.state_area.proofs.marks_done.Kinds as marks_done_kinds
-use Rattle.state_area.proofs.marks_done.Reads as marks_done_lem
+use Rattle.state_area.proofs.marks_done.Reads as marks_done_reads
 use Rattle.state_area.proofs.progress.Kinds as progress_kinds
 use Rattle.state_area.proofs.progress.Reads as progress
 use Rattle.state_area.proofs.invalidate.Kinds as invalidate_kinds
@@ -32,13 +32,13 @@ read_unique κs a x y v w p q = (p ∙ sym q, refl)
 pub is_valid_unique : OneResult is_valid_kinds.ps is_valid_kinds.r is_valid.Post
 is_valid_unique κs a x y v w p q = (p ∙ sym q, refl)
 
-pub most_marks_unique : OneResult most_marks_kinds.ps most_marks_kinds.r most_marks_lem.Post
+pub most_marks_unique : OneResult most_marks_kinds.ps most_marks_kinds.r most_marks_reads.Post
 most_marks_unique κs a x y v w p q = (p ∙ sym q, refl)
 
-pub first_open_unique : OneResult first_open_kinds.ps first_open_kinds.r first_open_lem.Post
+pub first_open_unique : OneResult first_open_kinds.ps first_open_kinds.r first_open_reads.Post
 first_open_unique κs a x y v w p q = (p ∙ sym q, refl)
 
-pub marks_done_unique : OneResult marks_done_kinds.ps marks_done_kinds.r marks_done_lem.Post
+pub marks_done_unique : OneResult marks_done_kinds.ps marks_done_kinds.r marks_done_reads.Post
 marks_done_unique κs a x y v w p q = (p ∙ sym q, refl)
 
 pub progress_unique : OneResult progress_kinds.ps progress_kinds.r progress.Post

@@ -15,9 +15,9 @@ use Rattle.verdicts.proofs.check.or.Reads as or
 use Rattle.verdicts.proofs.check.last.Kinds as last_kinds
 use Rattle.verdicts.proofs.check.last.Reads as last
 use Rattle.verdicts.proofs.check.bad_number.Kinds as bad_number_kinds
-use Rattle.verdicts.proofs.check.bad_number.Reads as bad_number_lem
+use Rattle.verdicts.proofs.check.bad_number.Reads as bad_number_reads
 use Rattle.verdicts.proofs.check.bad_value.Kinds as bad_value_kinds
-use Rattle.verdicts.proofs.check.bad_value.Reads as bad_value_lem
+use Rattle.verdicts.proofs.check.bad_value.Reads as bad_value_reads
 use Rattle.verdicts.proofs.check.too_long.Kinds as too_long_kinds
 use Rattle.verdicts.proofs.check.too_long.Reads as too_long
 use Rattle.verdicts.proofs.check.uneven.Kinds as uneven_kinds
@@ -29,13 +29,13 @@ use Rattle.verdicts.proofs.check.state_limits.Reads as state_limits
 use Rattle.verdicts.proofs.check.updater_limits.Kinds as updater_limits_kinds
 use Rattle.verdicts.proofs.check.updater_limits.Reads as updater_limits
 use Rattle.verdicts.proofs.check.uneven_page.Kinds as uneven_page_kinds
-use Rattle.verdicts.proofs.check.uneven_page.Reads as uneven_page_lem
+use Rattle.verdicts.proofs.check.uneven_page.Reads as uneven_page_reads
 use Rattle.verdicts.proofs.check.uneven_areas.Kinds as uneven_areas_kinds
-use Rattle.verdicts.proofs.check.uneven_areas.Reads as uneven_areas_lem
+use Rattle.verdicts.proofs.check.uneven_areas.Reads as uneven_areas_reads
 use Rattle.verdicts.proofs.check.bad_state.Kinds as bad_state_kinds
-use Rattle.verdicts.proofs.check.bad_state.Reads as bad_state_lem
+use Rattle.verdicts.proofs.check.bad_state.Reads as bad_state_reads
 use Rattle.verdicts.proofs.check.boot_words.Kinds as boot_words_kinds
-use Rattle.verdicts.proofs.check.boot_words.Reads as boot_words_lem
+use Rattle.verdicts.proofs.check.boot_words.Reads as boot_words_reads
 use Rattle.verdicts.proofs.check.bad_boot_state.Kinds as bad_boot_state_kinds
 use Rattle.verdicts.proofs.check.bad_boot_state.Reads as bad_boot_state
 
@@ -56,10 +56,10 @@ pub last_unique : OneResult last_kinds.ps last_kinds.r last.Post
 last_unique κs a x y v w p q = (p _ refl ∙ sym (q _ refl), refl)
 
 -- the rows
-pub bad_number_unique : OneResult bad_number_kinds.ps bad_number_kinds.r bad_number_lem.Post
+pub bad_number_unique : OneResult bad_number_kinds.ps bad_number_kinds.r bad_number_reads.Post
 bad_number_unique κs a x y v w p q = (p ∙ sym q, refl)
 
-pub bad_value_unique : OneResult bad_value_kinds.ps bad_value_kinds.r bad_value_lem.Post
+pub bad_value_unique : OneResult bad_value_kinds.ps bad_value_kinds.r bad_value_reads.Post
 bad_value_unique κs a x y v w p q = (p ∙ sym q, refl)
 
 pub too_long_unique : OneResult too_long_kinds.ps too_long_kinds.r too_long.Post
@@ -77,16 +77,16 @@ state_limits_unique κs a x y v w p q = (p ∙ sym q, refl)
 pub updater_limits_unique : OneResult updater_limits_kinds.ps updater_limits_kinds.r updater_limits.Post
 updater_limits_unique κs a x y v w p q = (p ∙ sym q, refl)
 
-pub uneven_page_unique : OneResult uneven_page_kinds.ps uneven_page_kinds.r uneven_page_lem.Post
+pub uneven_page_unique : OneResult uneven_page_kinds.ps uneven_page_kinds.r uneven_page_reads.Post
 uneven_page_unique κs a x y v w p q = (p ∙ sym q, refl)
 
-pub uneven_areas_unique : OneResult uneven_areas_kinds.ps uneven_areas_kinds.r uneven_areas_lem.Post
+pub uneven_areas_unique : OneResult uneven_areas_kinds.ps uneven_areas_kinds.r uneven_areas_reads.Post
 uneven_areas_unique κs a x y v w p q = (p ∙ sym q, refl)
 
-pub bad_state_unique : OneResult bad_state_kinds.ps bad_state_kinds.r bad_state_lem.Post
+pub bad_state_unique : OneResult bad_state_kinds.ps bad_state_kinds.r bad_state_reads.Post
 bad_state_unique κs a x y v w p q = (p ∙ sym q, refl)
 
-pub boot_words_unique : OneResult boot_words_kinds.ps boot_words_kinds.r boot_words_lem.Post
+pub boot_words_unique : OneResult boot_words_kinds.ps boot_words_kinds.r boot_words_reads.Post
 boot_words_unique κs a x y v w p q = (p ∙ sym q, refl)
 
 pub bad_boot_state_unique : OneResult bad_boot_state_kinds.ps bad_boot_state_kinds.r bad_boot_state.Post
