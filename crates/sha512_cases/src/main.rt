@@ -3,14 +3,14 @@
 #![tactic(auto)]
 ghost use Rattle.std.specs.Prelude.{◌≤◌, ◌<◌};
 
-use libc::STDOUT_FILENO;
 use sha512::Stream;
+use std::io;
 
 fn digit(n: u8) -> u8 {
     if n < 10 { 48 + n } else { 87 + n % 16 }
 }
 
-fn show(digest: &[u8; 64]) {
+fn show(rt: &impl Print, digest: &[u8; 64]) -> io::Result<()> {
     let mut text = [10u8; 129];
     let mut i = 0;
     while i < 64 {
@@ -18,13 +18,13 @@ fn show(digest: &[u8; 64]) {
         text[2 * i + 1] = digit(digest[i] % 16);
         i += 1;
     }
-    io::write_all(STDOUT_FILENO, &text);
+    rt.write_all(&text)
 }
 
-fn show_digest(s: Stream) {
+fn show_digest(rt: &impl Print, s: Stream) -> io::Result<()> {
     let mut out = [0u8; 64];
     sha512::finish(s, &mut out);
-    show(&out);
+    show(rt, &out)
 }
 
 // Where the piece that begins at i ends.
@@ -51,27 +51,27 @@ fn in_pieces(message: &[u8], by: usize) -> Stream
 }
 
 // The message's first n bytes: byte by byte, in two other cuttings, and at once.
-fn case(message: &[u8], n: usize) {
+fn case(rt: &impl Print, message: &[u8], n: usize) -> io::Result<()> {
     if n <= message.len() {
         let start = 0;
         let part = &message[start..n];
-        io::print_decimal(STDOUT_FILENO, n as u64);
-        io::write_all(STDOUT_FILENO, b"\n");
-        show_digest(in_pieces(part, 1));
-        show_digest(in_pieces(part, 50));
-        show_digest(in_pieces(part, 111));
-        show_digest(in_pieces(part, 128));
+        println!(rt; "{n}")?;
+        show_digest(rt, in_pieces(part, 1))?;
+        show_digest(rt, in_pieces(part, 50))?;
+        show_digest(rt, in_pieces(part, 111))?;
+        show_digest(rt, in_pieces(part, 128))?;
     }
+    Ok(())
 }
 
 // The first 3 bytes and the first 112 are the standard's examples.
-fn cases(message: &[u8]) {
-    case(message, 0);
-    case(message, 3);
-    case(message, 111);
-    case(message, 112);
-    case(message, 127);
-    case(message, 128);
+fn cases(rt: &impl Print, message: &[u8]) -> io::Result<()> {
+    case(rt, message, 0)?;
+    case(rt, message, 3)?;
+    case(rt, message, 111)?;
+    case(rt, message, 112)?;
+    case(rt, message, 127)?;
+    case(rt, message, 128)
 }
 
 fn repeated(piece: &[u8], times: usize) -> Stream {
@@ -85,15 +85,16 @@ fn repeated(piece: &[u8], times: usize) -> Stream {
 }
 
 // A million times 'a': an example of the standard's, too.
-fn million() {
+fn million(rt: &impl Print) -> io::Result<()> {
     let piece = [97u8; 125];
-    io::write_all(STDOUT_FILENO, b"1000000\n");
-    show_digest(repeated(&piece, 8000));
+    println!(rt; "1000000")?;
+    show_digest(rt, repeated(&piece, 8000))
 }
 
-fn main() {
+fn main(rt: HostRuntime) -> io::Result<()> {
     cases(
+        &rt,
         b"abcdefghbcdefghicdefghijdefghijkefghijklfghijklmghijklmnhijklmnoijklmnopjklmnopqklmnopqrlmnopqrsmnopqrstnopqrstuopqrstuvpqrstuvw",
-    );
-    million();
+    )?;
+    million(&rt)
 }
