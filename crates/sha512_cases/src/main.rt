@@ -1,6 +1,7 @@
 // Digests of messages whose digests are published, or that end near a block's end. Each message comes in pieces of several lengths,
 // with an empty piece before each.
 #![tactic(auto)]
+
 ghost use Rattle.std.specs.Prelude.{◌≤◌, ◌<◌};
 
 use sha512::Stream;
