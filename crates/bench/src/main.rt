@@ -1,7 +1,11 @@
 // The bench program: it reads its input from standard input. The crate bench_run says what it does.
 #![tactic(auto)]
-use libc::STDIN_FILENO;
 
-fn main() {
-    bench_run::run(STDIN_FILENO);
+use std::io;
+
+fn main(rt: HostRuntime) -> io::Result<()> {
+    match bench_run::run(&rt, &mut rt.stdin(), &mut rt.stdout()) {
+        Ok(()) => Ok(()),
+        Err(failure) => bench_run::tell(&rt, &failure),
+    }
 }

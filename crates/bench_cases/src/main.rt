@@ -1,35 +1,24 @@
 // Runs the bench program on each file that its arguments name, and writes each file's name above what the bench writes of it.
 #![tactic(auto)]
-use libc::STDOUT_FILENO;
 
-fn say(bytes: &[u8]) {
-    io::write_all(STDOUT_FILENO, bytes);
-}
+use std::fs::File;
+use std::{env, io};
 
-fn case(name: &[u8]) {
-    say(b"== ");
-    say(name);
-    say(b"\n");
-    let fd = os::open_read(name);
-    if fd < 0 {
-        os::fail(name);
-        return;
+fn case(rt: &HostRuntime, name: &str) -> io::Result<()> {
+    println!(rt; "== {name}")?;
+    let mut file = match File::open(rt, name) {
+        Ok(file) => file,
+        Err(error) => return bench_run::complain(rt, name, &error),
+    };
+    match bench_run::run(rt, &mut file, &mut rt.stdout()) {
+        Ok(()) => Ok(()),
+        Err(failure) => bench_run::tell(rt, &failure),
     }
-    bench_run::run(fd);
-    libc::close(fd);
 }
 
-fn case_at(i: usize) {
-    let mut path = io::buffer();
-    let n = os::arg(i, &mut path);
-    case(&path[..n]);
-}
-
-fn main() {
-    let most = os::arg_count();
-    let mut i = 1;
-    while i < most {
-        case_at(i);
-        i += 1;
+fn main(rt: HostRuntime) -> io::Result<()> {
+    for name in env::args(&rt)?.skip(1) {
+        case(&rt, name.as_str())?;
     }
+    Ok(())
 }

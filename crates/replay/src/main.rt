@@ -2,9 +2,11 @@
 // came out the same. It lets the repository's own tests hold the library to the original without a Rust compiler. What the sample
 // is made of, and its format, stands in the README of the folder oracle.
 #![tactic(auto)]
+
 ghost use Rattle.std.specs.Prelude.{◌+◌, ◌<◌, ◌≤◌};
 
-use libc::{STDIN_FILENO, STDOUT_FILENO};
+use std::io;
+use std::io::Read;
 
 // The numbers that stand at the head of a record.
 #[derive(Clone, Copy)]
@@ -204,16 +206,30 @@ fn call_arrays(
 
 // ---- buffers
 
-// Reads n bytes, and answers whether there were so many, and room for them.
-fn read_part(buffer: &mut [u8], n: usize) -> bool {
-    if n > buffer.len() {
-        return false;
+// Reads until the buffer is full or the input ends, and says how many bytes came.
+fn read_full(input: &mut impl Read, buffer: &mut [u8]) -> io::Result<usize> {
+    let mut done = 0;
+    while done < buffer.len() {
+        let n = input.read(&mut buffer[done..])?;
+        if n == 0 {
+            break;
+        }
+        done += n;
     }
-    io::read_full(STDIN_FILENO, &mut buffer[..n]) == n
+    Ok(done)
 }
 
-fn fill(buffer: &mut [u8; 64], n: usize) -> bool {
-    read_part(buffer, n)
+// Reads n bytes, and answers whether there were so many, and room for them.
+fn read_part(input: &mut impl Read, buffer: &mut [u8], n: usize) -> io::Result<bool> {
+    if n > buffer.len() {
+        return Ok(false);
+    }
+    let read = read_full(input, &mut buffer[..n])?;
+    Ok(read == n)
+}
+
+fn fill(input: &mut impl Read, buffer: &mut [u8; 64], n: usize) -> io::Result<bool> {
+    read_part(input, buffer, n)
 }
 
 // Whether the first n bytes are the same.
@@ -236,25 +252,25 @@ fn same_arrays(a: &[u8; 64], b: &[u8; 64], n: usize) -> bool {
 }
 
 // Whether an area's n bytes are those that come next in the sample.
-fn as_after(area: &[u8; 64], n: usize) -> bool {
+fn as_after(input: &mut impl Read, area: &[u8; 64], n: usize) -> io::Result<bool> {
     let mut buffer = [0u8; 64];
-    if !fill(&mut buffer, n) {
-        return false;
+    if !fill(input, &mut buffer, n)? {
+        return Ok(false);
     }
-    same_arrays(area, &buffer, n)
+    Ok(same_arrays(area, &buffer, n))
 }
 
 // ---- a record
 
-fn read_head(head: &mut [u8; 88], n: usize) -> bool {
-    read_part(head, n)
+fn read_head(input: &mut impl Read, head: &mut [u8; 88], n: usize) -> io::Result<bool> {
+    read_part(input, head, n)
 }
 
 // Reads the next record and replays it. All that the record holds is read, however it comes out, since the next one follows.
-fn replay_record() -> Outcome {
+fn replay_record(input: &mut impl Read) -> io::Result<Outcome> {
     let mut head = [0u8; 88];
-    if !read_head(&mut head, 88) {
-        return Outcome::Broken;
+    if !read_head(input, &mut head, 88)? {
+        return Ok(Outcome::Broken);
     }
     let r = decode(&head);
     let l = decode_lengths(&head);
@@ -268,13 +284,13 @@ fn replay_record() -> Outcome {
     let mut state = [0u8; 64];
     let mut data = [0u8; 64];
     let mut out = [0u8; 64];
-    let is_read = fill(&mut active, la)
-        && fill(&mut dfu, ld)
-        && fill(&mut state, ls)
-        && fill(&mut data, l.data)
-        && fill(&mut out, lo);
+    let is_read = fill(input, &mut active, la)?
+        && fill(input, &mut dfu, ld)?
+        && fill(input, &mut state, ls)?
+        && fill(input, &mut data, l.data)?
+        && fill(input, &mut out, lo)?;
     if !is_read || kind > 13 {
-        return Outcome::Broken;
+        return Ok(Outcome::Broken);
     }
     let mut last = number(&head, 72);
     let result = call_arrays(
@@ -287,109 +303,105 @@ fn replay_record() -> Outcome {
         &mut out,
         &mut last,
     );
-    let is_active = as_after(&active, la);
-    let is_dfu = as_after(&dfu, ld);
-    let is_state = as_after(&state, ls);
-    let is_out = as_after(&out, lo);
+    let is_active = as_after(input, &active, la)?;
+    let is_dfu = as_after(input, &dfu, ld)?;
+    let is_state = as_after(input, &state, ls)?;
+    let is_out = as_after(input, &out, lo)?;
     if result != long_number(&head, 76) || last != number(&head, 84) {
-        return Outcome::Different(kind);
+        return Ok(Outcome::Different(kind));
     }
     if is_active && is_dfu && is_state && is_out {
-        return Outcome::Same(kind);
+        return Ok(Outcome::Same(kind));
     }
-    Outcome::Different(kind)
+    Ok(Outcome::Different(kind))
 }
 
 // ---- the report
 
-fn say(text: &[u8]) {
-    io::write_all(STDOUT_FILENO, text);
+fn say(rt: &impl Print, text: &[u8]) -> io::Result<()> {
+    rt.write_all(text)
 }
 
-fn name(kind: usize) {
+fn name(rt: &impl Print, kind: usize) -> io::Result<()> {
     match kind {
-        0 => say(b" prepare_boot\n"),
-        1 => say(b" read_state\n"),
-        2 => say(b" get_state of the firmware state\n"),
-        3 => say(b" mark_updated of the firmware state\n"),
-        4 => say(b" mark_dfu of the firmware state\n"),
-        5 => say(b" mark_booted of the firmware state\n"),
-        6 => say(b" get_state of the updater\n"),
-        7 => say(b" mark_updated of the updater\n"),
-        8 => say(b" mark_dfu of the updater\n"),
-        9 => say(b" mark_booted of the updater\n"),
-        10 => say(b" read_dfu\n"),
-        11 => say(b" write_firmware\n"),
-        12 => say(b" prepare_update\n"),
-        _ => say(b" State::from\n"),
+        0 => say(rt, b" prepare_boot\n"),
+        1 => say(rt, b" read_state\n"),
+        2 => say(rt, b" get_state of the firmware state\n"),
+        3 => say(rt, b" mark_updated of the firmware state\n"),
+        4 => say(rt, b" mark_dfu of the firmware state\n"),
+        5 => say(rt, b" mark_booted of the firmware state\n"),
+        6 => say(rt, b" get_state of the updater\n"),
+        7 => say(rt, b" mark_updated of the updater\n"),
+        8 => say(rt, b" mark_dfu of the updater\n"),
+        9 => say(rt, b" mark_booted of the updater\n"),
+        10 => say(rt, b" read_dfu\n"),
+        11 => say(rt, b" write_firmware\n"),
+        12 => say(rt, b" prepare_update\n"),
+        _ => say(rt, b" State::from\n"),
     }
 }
 
-fn line(count: u32, kind: usize) {
-    io::print_decimal(STDOUT_FILENO, count as u64);
-    name(kind);
+fn line(rt: &impl Print, count: u32, kind: usize) -> io::Result<()> {
+    print!(rt; "{count}")?;
+    name(rt, kind)
 }
 
 // A line for each kind of call, and whether all was the same.
-fn tell(tally: &[u32]) {
-    let mut kind = 0;
-    while kind < tally.len() {
-        line(tally[kind], kind);
-        kind += 1;
+fn tell(rt: &impl Print, tally: &[u32]) -> io::Result<()> {
+    for (kind, count) in tally.iter().enumerate() {
+        line(rt, *count, kind)?;
     }
+    Ok(())
 }
 
-fn conclude(different: u32) {
+fn conclude(rt: &impl Print, different: u32) -> io::Result<()> {
     if different == 0 {
-        say(b"no difference\n");
+        say(rt, b"no difference\n")
     } else {
-        io::print_decimal(STDOUT_FILENO, different as u64);
-        say(b" differences\n");
+        println!(rt; "{different} differences")
     }
 }
 
-fn tell_array(tally: &[u32; 14]) {
-    tell(tally);
+fn tell_array(rt: &impl Print, tally: &[u32; 14]) -> io::Result<()> {
+    tell(rt, tally)
 }
 
 // The counts cannot wrap, since there are fewer records than that; the supplied sum spares the proof of it.
-fn replay_all(records: u32) {
+fn replay_all(rt: &impl Print, input: &mut impl Read, records: u32) -> io::Result<()> {
     let mut tally = [0u32; 14];
-    let mut different = 0;
+    let mut different: u32 = 0;
     let mut left = records;
     while left > 0 {
         left -= 1;
-        let outcome = replay_record();
+        let outcome = replay_record(input)?;
         match outcome {
             Outcome::Same(kind) => {
                 if kind < 14 {
                     let k = kind as usize;
-                    tally[k] = std::num::wrapping_add_u32(tally[k], 1);
+                    tally[k] = tally[k].wrapping_add(1);
                 }
             }
             Outcome::Different(_) => {
-                different = std::num::wrapping_add_u32(different, 1);
+                different = different.wrapping_add(1);
             }
             Outcome::Broken => {
-                say(b"the sample is broken\n");
-                return;
+                return say(rt, b"the sample is broken\n");
             }
         }
     }
-    tell_array(&tally);
-    conclude(different);
+    tell_array(rt, &tally)?;
+    conclude(rt, different)
 }
 
-fn main() {
+fn main(rt: HostRuntime) -> io::Result<()> {
+    let mut input = rt.stdin();
     let mut head = [0u8; 88];
-    if !read_head(&mut head, 16) {
-        say(b"no sample\n");
-        return;
+    if !read_head(&mut input, &mut head, 16)? {
+        return say(&rt, b"no sample\n");
     }
     // EBRP, version 2
     if number(&head, 0) != 1347568197 || number(&head, 4) != 2 {
-        say(b"no sample\n");
-        return;
+        return say(&rt, b"no sample\n");
     }
-    replay_all(number(&head, 8));
+    replay_all(&rt, &mut input, number(&head, 8))
 }

@@ -1,11 +1,13 @@
 // The bench sheet, run through the code: each case is printed with its answer and areas, and held to what the sheet says.
 // Answers read as document 01 has them: the number, the state or a dash, the operations.
 #![tactic(auto)]
+
 use boot_loader::BootLoader;
 use firmware_state::BlockingFirmwareState;
 use geometry::{Geometry, StateSizes};
 use rules::Answer;
 use show::Expected;
+use std::io;
 
 mod show;
 mod updater;
@@ -52,6 +54,7 @@ fn boot(active: &mut Active, dfu: &mut Dfu, state: &mut Marks, budget: u32) -> A
 
 // Prints a case and holds it to the sheet: pages by their byte, the state byte by byte.
 fn told(
+    rt: &impl Print,
     label: &[u8],
     answer: Answer,
     expected: Expected,
@@ -61,16 +64,17 @@ fn told(
     pages: &[u8],
     spare: &[u8],
     bytes: &[u8],
-) -> u32 {
-    show::case(label, answer);
-    show::areas(active, dfu, state);
+) -> io::Result<u32> {
+    show::case(rt, label, answer)?;
+    show::areas(rt, active, dfu, state)?;
     let right = show::answer_is(answer, expected);
     let images = show::both(show::pages_are(active, pages), show::pages_are(dfu, spare));
-    show::verdict(right, show::both(images, check::same(state, bytes)))
+    show::verdict(rt, right, show::both(images, check::same(state, bytes)))
 }
 
 // One to three boots from the start; the last one's answer counts.
 fn boots(
+    rt: &impl Print,
     label: &[u8],
     runs: u32,
     first: u32,
@@ -80,7 +84,7 @@ fn boots(
     pages: &[u8],
     spare: &[u8],
     bytes: &[u8],
-) -> u32 {
+) -> io::Result<u32> {
     let mut active = active_start();
     let mut dfu = dfu_start();
     let mut state: Marks = [0xFF; 16];
@@ -93,11 +97,12 @@ fn boots(
         answer = boot(&mut active, &mut dfu, &mut state, third);
     }
     whole(
-        label, answer, expected, &active, &dfu, &state, pages, spare, bytes,
+        rt, label, answer, expected, &active, &dfu, &state, pages, spare, bytes,
     )
 }
 
 fn whole(
+    rt: &impl Print,
     label: &[u8],
     answer: Answer,
     expected: Expected,
@@ -107,14 +112,15 @@ fn whole(
     pages: &[u8],
     spare: &[u8],
     bytes: &[u8],
-) -> u32 {
+) -> io::Result<u32> {
     told(
-        label, answer, expected, active, dfu, state, pages, spare, bytes,
+        rt, label, answer, expected, active, dfu, state, pages, spare, bytes,
     )
 }
 
-fn case_a() -> u32 {
+fn case_a(rt: &impl Print) -> io::Result<u32> {
     boots(
+        rt,
         b"a: boot 24",
         1,
         24,
@@ -127,8 +133,9 @@ fn case_a() -> u32 {
     )
 }
 
-fn case_b() -> u32 {
+fn case_b(rt: &impl Print) -> io::Result<u32> {
     boots(
+        rt,
         b"b: boot 23",
         1,
         23,
@@ -141,8 +148,9 @@ fn case_b() -> u32 {
     )
 }
 
-fn case_c() -> u32 {
+fn case_c(rt: &impl Print) -> io::Result<u32> {
     boots(
+        rt,
         b"c: boot 4",
         1,
         4,
@@ -155,8 +163,9 @@ fn case_c() -> u32 {
     )
 }
 
-fn case_d() -> u32 {
+fn case_d(rt: &impl Print) -> io::Result<u32> {
     boots(
+        rt,
         b"d: boot 1",
         1,
         1,
@@ -169,8 +178,9 @@ fn case_d() -> u32 {
     )
 }
 
-fn case_e() -> u32 {
+fn case_e(rt: &impl Print) -> io::Result<u32> {
     boots(
+        rt,
         b"e: boot 0",
         1,
         0,
@@ -183,8 +193,9 @@ fn case_e() -> u32 {
     )
 }
 
-fn case_f() -> u32 {
+fn case_f(rt: &impl Print) -> io::Result<u32> {
     boots(
+        rt,
         b"f: boot 24, boot 27",
         2,
         24,
@@ -197,8 +208,9 @@ fn case_f() -> u32 {
     )
 }
 
-fn case_g() -> u32 {
+fn case_g(rt: &impl Print) -> io::Result<u32> {
     boots(
+        rt,
         b"g: boot 24, boot 25",
         2,
         24,
@@ -211,8 +223,9 @@ fn case_g() -> u32 {
     )
 }
 
-fn case_h() -> u32 {
+fn case_h(rt: &impl Print) -> io::Result<u32> {
     boots(
+        rt,
         b"h: boot 24, boot 25, boot 3",
         3,
         24,
@@ -225,8 +238,9 @@ fn case_h() -> u32 {
     )
 }
 
-fn case_i() -> u32 {
+fn case_i(rt: &impl Print) -> io::Result<u32> {
     boots(
+        rt,
         b"i: boot 24, boot 26, boot 0",
         3,
         24,
@@ -240,7 +254,7 @@ fn case_i() -> u32 {
 }
 
 // A swap, a confirmation that is cut after its invalidation, and a boot, which finishes it.
-fn case_j() -> u32 {
+fn case_j(rt: &impl Print) -> io::Result<u32> {
     let mut active = active_start();
     let mut dfu = dfu_start();
     let mut state: Marks = [0xFF; 16];
@@ -249,6 +263,7 @@ fn case_j() -> u32 {
     mark_booted(&mut state);
     let answer = boot(&mut active, &mut dfu, &mut state, 3);
     whole(
+        rt,
         b"j: boot 24, mark_booted 1, boot 3",
         answer,
         show::found(1, 2),
@@ -266,13 +281,13 @@ fn mark_booted(state: &mut Marks) -> Answer {
 }
 
 // The same with 4N + 2 state words. The last mark would never be read and the image would be mixed, so both boots are refused.
-fn case_k() -> u32 {
+fn case_k(rt: &impl Print) -> io::Result<u32> {
     let mut active = active_start();
     let mut dfu = dfu_start();
     let mut state = [0xFFu8; 14];
     state[0] = 0xF0;
     let answer = run_k(&mut active, &mut dfu, &mut state);
-    told_k(answer, &active, &dfu, &state)
+    told_k(rt, answer, &active, &dfu, &state)
 }
 
 fn run_k(active: &mut Active, dfu: &mut Dfu, state: &mut [u8; 14]) -> Answer {
@@ -289,8 +304,15 @@ fn confirm_k(state: &mut [u8; 14]) -> Answer {
     BlockingFirmwareState::new(state_sizes(14)).mark_booted(state, 1)
 }
 
-fn told_k(answer: Answer, active: &Active, dfu: &Dfu, state: &[u8; 14]) -> u32 {
+fn told_k(
+    rt: &impl Print,
+    answer: Answer,
+    active: &Active,
+    dfu: &Dfu,
+    state: &[u8; 14],
+) -> io::Result<u32> {
     told(
+        rt,
         b"k: 14 state bytes, boot 24, mark_booted 1, boot 7",
         answer,
         show::refused(4),
@@ -304,13 +326,13 @@ fn told_k(answer: Answer, active: &Active, dfu: &Dfu, state: &[u8; 14]) -> u32 {
 }
 
 // And with 4N + 3, the fewest that are admitted.
-fn case_k_more() -> u32 {
+fn case_k_more(rt: &impl Print) -> io::Result<u32> {
     let mut active = active_start();
     let mut dfu = dfu_start();
     let mut state = [0xFFu8; 15];
     state[0] = 0xF0;
     let answer = run_k_more(&mut active, &mut dfu, &mut state);
-    told_k_more(answer, &active, &dfu, &state)
+    told_k_more(rt, answer, &active, &dfu, &state)
 }
 
 fn run_k_more(active: &mut Active, dfu: &mut Dfu, state: &mut [u8; 15]) -> Answer {
@@ -327,8 +349,15 @@ fn confirm_k_more(state: &mut [u8; 15]) -> Answer {
     BlockingFirmwareState::new(state_sizes(15)).mark_booted(state, 1)
 }
 
-fn told_k_more(answer: Answer, active: &Active, dfu: &Dfu, state: &[u8; 15]) -> u32 {
+fn told_k_more(
+    rt: &impl Print,
+    answer: Answer,
+    active: &Active,
+    dfu: &Dfu,
+    state: &[u8; 15],
+) -> io::Result<u32> {
     told(
+        rt,
         b"k with 15 state bytes",
         answer,
         show::found(1, 2),
@@ -342,21 +371,28 @@ fn told_k_more(answer: Answer, active: &Active, dfu: &Dfu, state: &[u8; 15]) -> 
 }
 
 // A word fewer still.
-fn thirteen() -> u32 {
+fn thirteen(rt: &impl Print) -> io::Result<u32> {
     let mut active = active_start();
     let mut dfu = dfu_start();
     let mut state = [0xFFu8; 13];
     state[0] = 0xF0;
     let answer = boot_thirteen(&mut active, &mut dfu, &mut state);
-    told_thirteen(answer, &active, &dfu, &state)
+    told_thirteen(rt, answer, &active, &dfu, &state)
 }
 
 fn boot_thirteen(active: &mut Active, dfu: &mut Dfu, state: &mut [u8; 13]) -> Answer {
     loader(13).prepare_boot(active, dfu, state, 24)
 }
 
-fn told_thirteen(answer: Answer, active: &Active, dfu: &Dfu, state: &[u8; 13]) -> u32 {
+fn told_thirteen(
+    rt: &impl Print,
+    answer: Answer,
+    active: &Active,
+    dfu: &Dfu,
+    state: &[u8; 13],
+) -> io::Result<u32> {
     told(
+        rt,
         b"13 state bytes, boot 24",
         answer,
         show::refused(4),
@@ -370,21 +406,28 @@ fn told_thirteen(answer: Answer, active: &Active, dfu: &Dfu, state: &[u8; 13]) -
 }
 
 // No active page at all: it counts as swapped already.
-fn case_l() -> u32 {
+fn case_l(rt: &impl Print) -> io::Result<u32> {
     let mut active = [0u8; 0];
     let mut dfu = [4u8; 4];
     let mut state = [0xFFu8; 3];
     state[0] = 0xF0;
     let answer = boot_l(&mut active, &mut dfu, &mut state);
-    told_l(answer, &active, &dfu, &state)
+    told_l(rt, answer, &active, &dfu, &state)
 }
 
 fn boot_l(active: &mut [u8; 0], dfu: &mut [u8; 4], state: &mut [u8; 3]) -> Answer {
     loader(3).prepare_boot(active, dfu, state, 3)
 }
 
-fn told_l(answer: Answer, active: &[u8; 0], dfu: &[u8; 4], state: &[u8; 3]) -> u32 {
+fn told_l(
+    rt: &impl Print,
+    answer: Answer,
+    active: &[u8; 0],
+    dfu: &[u8; 4],
+    state: &[u8; 3],
+) -> io::Result<u32> {
     told(
+        rt,
         b"l: no active page, 3 state bytes, boot 3",
         answer,
         show::found(1, 3),
@@ -397,21 +440,28 @@ fn told_l(answer: Answer, active: &[u8; 0], dfu: &[u8; 4], state: &[u8; 3]) -> u
     )
 }
 
-fn case_l_two() -> u32 {
+fn case_l_two(rt: &impl Print) -> io::Result<u32> {
     let mut active = [0u8; 0];
     let mut dfu = [4u8; 4];
     let mut state = [0xFFu8; 2];
     state[0] = 0xF0;
     let answer = boot_l_two(&mut active, &mut dfu, &mut state);
-    told_l_two(answer, &active, &dfu, &state)
+    told_l_two(rt, answer, &active, &dfu, &state)
 }
 
 fn boot_l_two(active: &mut [u8; 0], dfu: &mut [u8; 4], state: &mut [u8; 2]) -> Answer {
     loader(2).prepare_boot(active, dfu, state, 3)
 }
 
-fn told_l_two(answer: Answer, active: &[u8; 0], dfu: &[u8; 4], state: &[u8; 2]) -> u32 {
+fn told_l_two(
+    rt: &impl Print,
+    answer: Answer,
+    active: &[u8; 0],
+    dfu: &[u8; 4],
+    state: &[u8; 2],
+) -> io::Result<u32> {
     told(
+        rt,
         b"l with 2 state bytes",
         answer,
         show::refused(4),
@@ -425,14 +475,14 @@ fn told_l_two(answer: Answer, active: &[u8; 0], dfu: &[u8; 4], state: &[u8; 2]) 
 }
 
 // Words of four bytes: a magic must fill its word.
-fn wide_magic() -> u32 {
+fn wide_magic(rt: &impl Print) -> io::Result<u32> {
     let state: [u8; 28] = [
         0xF0, 0xF0, 0xF0, 0xFF, 0xFF, 0xFF, 0xFF, 0xFF, 0xFF, 0xFF, 0xFF, 0xFF, 0xFF, 0xFF, 0xFF,
         0xFF, 0xFF, 0xFF, 0xFF, 0xFF, 0xFF, 0xFF, 0xFF, 0xFF, 0xFF, 0xFF, 0xFF, 0xFF,
     ];
     let answer = wide().read_state(&state);
-    show::case(b"4-byte words, F0 F0 F0 FF", answer);
-    show::verdict(show::answer_is(answer, show::found(0, 0)), true)
+    show::case(rt, b"4-byte words, F0 F0 F0 FF", answer)?;
+    show::verdict(rt, show::answer_is(answer, show::found(0, 0)), true)
 }
 
 fn wide() -> BootLoader {
@@ -451,7 +501,7 @@ fn wide() -> BootLoader {
 }
 
 // One erased byte keeps a mark open: the mark 00 FF 00 00 of step 0 is not done, so a boot begins with step 0.
-fn wide_mark() -> u32 {
+fn wide_mark(rt: &impl Print) -> io::Result<u32> {
     let mut active = [1u8; 4];
     let mut dfu = [4u8, 4, 4, 4, 5, 5, 5, 5];
     let mut state: [u8; 28] = [
@@ -459,15 +509,22 @@ fn wide_mark() -> u32 {
         0xFF, 0xFF, 0xFF, 0xFF, 0xFF, 0xFF, 0xFF, 0xFF, 0xFF, 0xFF, 0xFF, 0xFF,
     ];
     let answer = boot_wide(&mut active, &mut dfu, &mut state);
-    told_wide(answer, &active, &dfu, &state)
+    told_wide(rt, answer, &active, &dfu, &state)
 }
 
 fn boot_wide(active: &mut [u8; 4], dfu: &mut [u8; 8], state: &mut [u8; 28]) -> Answer {
     wide().prepare_boot(active, dfu, state, 1)
 }
 
-fn told_wide(answer: Answer, active: &[u8; 4], dfu: &[u8; 8], state: &[u8; 28]) -> u32 {
+fn told_wide(
+    rt: &impl Print,
+    answer: Answer,
+    active: &[u8; 4],
+    dfu: &[u8; 8],
+    state: &[u8; 28],
+) -> io::Result<u32> {
     told(
+        rt,
         b"4-byte words, mark 00 FF 00 00, boot 1",
         answer,
         show::cut(1),
@@ -481,28 +538,37 @@ fn told_wide(answer: Answer, active: &[u8; 4], dfu: &[u8; 8], state: &[u8; 28]) 
 }
 
 // The longest active area is refused for its DFU, and one byte more for its length. The verdict reads lengths alone.
-fn long_areas() -> u32 {
+fn long_areas(rt: &impl Print) -> io::Result<u32> {
     let most = verdicts::boot_verdict(sizes(16), 16777216, 16, 16);
-    let m = show::judged(b"active of 16,777,216 bytes", most, 3);
+    let m = show::judged(rt, b"active of 16,777,216 bytes", most, 3)?;
     let more = verdicts::boot_verdict(sizes(16), 16777217, 16, 16);
-    let n = show::judged(b"active of 16,777,217 bytes", more, 1);
-    show::sum(m, n)
+    let n = show::judged(rt, b"active of 16,777,217 bytes", more, 1)?;
+    Ok(show::sum(m, n))
 }
 
-fn main() {
+fn main(rt: HostRuntime) -> io::Result<()> {
     let swap = show::sum(
-        case_a(),
-        show::sum(case_b(), show::sum(case_c(), show::sum(case_d(), case_e()))),
-    );
-    let revert = show::sum(case_f(), show::sum(case_g(), show::sum(case_h(), case_i())));
-    let short = show::sum(
-        case_j(),
+        case_a(&rt)?,
         show::sum(
-            show::sum(case_k(), case_k_more()),
-            show::sum(thirteen(), show::sum(case_l(), case_l_two())),
+            case_b(&rt)?,
+            show::sum(case_c(&rt)?, show::sum(case_d(&rt)?, case_e(&rt)?)),
         ),
     );
-    let wide = show::sum(wide_magic(), show::sum(wide_mark(), long_areas()));
+    let revert = show::sum(
+        case_f(&rt)?,
+        show::sum(case_g(&rt)?, show::sum(case_h(&rt)?, case_i(&rt)?)),
+    );
+    let short = show::sum(
+        case_j(&rt)?,
+        show::sum(
+            show::sum(case_k(&rt)?, case_k_more(&rt)?),
+            show::sum(thirteen(&rt)?, show::sum(case_l(&rt)?, case_l_two(&rt)?)),
+        ),
+    );
+    let wide = show::sum(
+        wide_magic(&rt)?,
+        show::sum(wide_mark(&rt)?, long_areas(&rt)?),
+    );
     let boots = show::sum(swap, show::sum(revert, show::sum(short, wide)));
-    show::tally(show::sum(boots, updater::lines()), 25);
+    show::tally(&rt, show::sum(boots, updater::lines(&rt)?), 25)
 }

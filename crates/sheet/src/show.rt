@@ -1,8 +1,8 @@
 // Comparing with what the sheet says, and printing.
 use geometry::Verdict;
-use libc::STDOUT_FILENO;
 use rules::{Answer, Sector};
 use state::State;
+use std::io;
 
 // What a case is to answer.
 #[derive(Clone, Copy)]
@@ -45,9 +45,9 @@ pub fn refused(number: u32) -> Expected {
     }
 }
 
-// A part of standard output; what cannot be written is lost.
-pub fn text(bytes: &[u8]) {
-    io::write_all(STDOUT_FILENO, bytes);
+// A part of standard output.
+pub fn text(rt: &impl Print, bytes: &[u8]) -> io::Result<()> {
+    rt.write_all(bytes)
 }
 
 // The byte of the page that holds byte i, with pages of four bytes; 0 past the last page.
@@ -79,12 +79,12 @@ fn state_number(s: State) -> u32 {
     }
 }
 
-fn state_name(s: State) {
+fn state_name(rt: &impl Print, s: State) -> io::Result<()> {
     match s {
-        State::Boot => text(b"Boot"),
-        State::Swap => text(b"Swap"),
-        State::Revert => text(b"Revert"),
-        State::DfuDetach => text(b"DfuDetach"),
+        State::Boot => text(rt, b"Boot"),
+        State::Swap => text(rt, b"Swap"),
+        State::Revert => text(rt, b"Revert"),
+        State::DfuDetach => text(rt, b"DfuDetach"),
     }
 }
 
@@ -105,50 +105,49 @@ pub fn both(a: bool, b: bool) -> bool {
     if a { b } else { false }
 }
 
-fn line_end(count: u32) {
-    io::print_decimal(STDOUT_FILENO, count as u64);
-    text(b"\n");
+fn line_end(rt: &impl Print, count: u32) -> io::Result<()> {
+    println!(rt; "{count}")
 }
 
 // The case's name, and what the code answered.
-pub fn case(label: &[u8], a: Answer) {
-    text(label);
-    text(b"\n  ");
+pub fn case(rt: &impl Print, label: &[u8], a: Answer) -> io::Result<()> {
+    text(rt, label)?;
+    text(rt, b"\n  ")?;
     match a {
         Answer::Found(s, n) => {
-            text(b"0 ");
-            state_name(s);
-            text(b" ");
-            line_end(n);
+            text(rt, b"0 ")?;
+            state_name(rt, s)?;
+            text(rt, b" ")?;
+            line_end(rt, n)
         }
         Answer::Done(n) => {
-            text(b"0 - ");
-            line_end(n);
+            text(rt, b"0 - ")?;
+            line_end(rt, n)
         }
         Answer::Refused(w) => {
-            io::print_decimal(STDOUT_FILENO, w.number() as u64);
-            text(b" - ");
-            line_end(0);
+            let number = w.number();
+            print!(rt; "{number} - ")?;
+            line_end(rt, 0)
         }
         Answer::Cut(n) => {
-            text(b"7 - ");
-            line_end(n);
+            text(rt, b"7 - ")?;
+            line_end(rt, n)
         }
     }
 }
 
 // Whether the answer and the areas are the sheet's.
-pub fn verdict(answer: bool, areas: bool) -> u32 {
+pub fn verdict(rt: &impl Print, answer: bool, areas: bool) -> io::Result<u32> {
     if !answer {
-        text(b"  NOT THE SHEET'S ANSWER\n");
-        return 0;
+        text(rt, b"  NOT THE SHEET'S ANSWER\n")?;
+        return Ok(0);
     }
     if !areas {
-        text(b"  NOT THE SHEET'S AREAS\n");
-        return 0;
+        text(rt, b"  NOT THE SHEET'S AREAS\n")?;
+        return Ok(0);
     }
-    text(b"  as the sheet says\n");
-    1
+    text(rt, b"  as the sheet says\n")?;
+    Ok(1)
 }
 
 // A sum of few cases; more than a hundred are a hundred.
@@ -162,11 +161,8 @@ pub fn sum(a: u32, b: u32) -> u32 {
 }
 
 // The last line.
-pub fn tally(right: u32, all: u32) {
-    io::print_decimal(STDOUT_FILENO, right as u64);
-    text(b" of ");
-    io::print_decimal(STDOUT_FILENO, all as u64);
-    text(b" cases as the sheet says\n");
+pub fn tally(rt: &impl Print, right: u32, all: u32) -> io::Result<()> {
+    println!(rt; "{right} of {all} cases as the sheet says")
 }
 
 // Whether the updater remembers this sector.
@@ -181,37 +177,35 @@ const DIGITS: [u8; 16] = [
     48, 49, 50, 51, 52, 53, 54, 55, 56, 57, 97, 98, 99, 100, 101, 102,
 ];
 
-fn hex(b: u8) {
+fn hex(rt: &impl Print, b: u8) -> io::Result<()> {
     let high = (b / 16) as usize;
     let low = (b % 16) as usize;
     let pair = [DIGITS[high], DIGITS[low]];
-    text(&pair);
+    text(rt, &pair)
 }
 
-pub fn area(name: &[u8], bytes: &[u8]) {
-    text(name);
-    let mut i = 0;
-    while i < bytes.len() {
-        hex(bytes[i]);
-        i += 1;
+pub fn area(rt: &impl Print, name: &[u8], bytes: &[u8]) -> io::Result<()> {
+    text(rt, name)?;
+    for b in bytes {
+        hex(rt, *b)?;
     }
-    text(b"\n");
+    text(rt, b"\n")
 }
 
-pub fn areas(active: &[u8], dfu: &[u8], state: &[u8]) {
-    area(b"  active ", active);
-    area(b"  dfu    ", dfu);
-    area(b"  state  ", state);
+pub fn areas(rt: &impl Print, active: &[u8], dfu: &[u8], state: &[u8]) -> io::Result<()> {
+    area(rt, b"  active ", active)?;
+    area(rt, b"  dfu    ", dfu)?;
+    area(rt, b"  state  ", state)
 }
 
 // A verdict by its number.
-pub fn judged(label: &[u8], v: Verdict, number: u32) -> u32 {
-    text(label);
-    text(b"\n  ");
+pub fn judged(rt: &impl Print, label: &[u8], v: Verdict, number: u32) -> io::Result<u32> {
+    text(rt, label)?;
+    text(rt, b"\n  ")?;
     let told = match v {
         Verdict::Admitted => 0,
         Verdict::Refused(w) => w.number(),
     };
-    line_end(told);
-    verdict(told == number, true)
+    line_end(rt, told)?;
+    verdict(rt, told == number, true)
 }
