@@ -1,5 +1,6 @@
 // The text that the bench program writes, put together in a buffer and proved against specs/Answers; writing it is the caller's.
 #![tactic(auto)]
+
 ghost use Rattle.std.specs.Prelude.{◌≡◌, ◌+◌, ◌*◌, ◌≤◌, ◌<◌, length, take};
 ghost use Rattle.std.proofs.Math.Option.{some};
 ghost use Rattle.io.specs.Counts.{IsPrefixLen};
