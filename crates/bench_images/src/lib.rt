@@ -1,5 +1,6 @@
 // The three areas of the bench program: how they start, and what a command does. What is promised is in specs/Images.
 #![tactic(auto)]
+
 ghost use Rattle.std.specs.Prelude.{◌≡◌, ◌+◌, ◌%◌, ◌<◌, ◌≤◌, length};
 ghost use Rattle.geometry.specs.Refusals.{verdict};
 ghost use Rattle.mem_flash.specs.Run.{flash};
