@@ -8,7 +8,7 @@ use Rattle.geometry.specs.declared.Geometry.{Geometry}
 use Rattle.geometry.specs.Refusals.{verdict}
 use Rattle.mem_flash.specs.Flash.{Flash}
 use Rattle.rules.specs.declared.Answer.{Answer}
-use Rattle.rules.specs.Calls.{reported, left}
+use Rattle.rules.specs.Calls.{reported}
 use Rattle.numerals.specs.Text.{first as first_of, split}
 use Rattle.numerals.proofs.Splits.{first_le}
 use Rattle.lines.specs.declared.SizesLine.{SizesLine}

@@ -2,7 +2,8 @@
 // What it gives is the definition `output` of the crate `bench_output`; how the two are joined is in specs/Machine. Reading and writing
 // are the caller's.
 #![tactic(auto)]
-ghost use Rattle.std.specs.Prelude.{◌≡◌, ℕ, ◌+◌, ◌<◌, ◌≤◌, List, [], ◌++◌, length, take, drop};
+
+ghost use Rattle.std.specs.Prelude.{◌≡◌, ℕ, ◌+◌, ◌<◌, ◌≤◌, List, [], ◌++◌, length, take, drop, ◌↔◌, IsTrue};
 ghost use Rattle.io.specs.Counts.{IsPrefixLen};
 ghost use Rattle.lines.specs.Lines.{sizes_line, lengths_line, command_line, most_bytes};
 ghost use Rattle.bench_images.specs.Images.{Fit, used};
@@ -48,7 +49,9 @@ pub struct Turn {
 }
 
 // Whether nothing more is to be read or written.
-pub fn is_over(b: Bench) -> bool {
+pub fn is_over(b: Bench) -> bool
+    ensures { IsTrue result ↔ (b.phase ≡ Phase.Over) }
+{
     let phase = b.phase;
     if let Phase::Over = phase { true } else { false }
 }
@@ -69,7 +72,7 @@ fn after(b: Bench, phase: Phase) -> Bench
 {
     Bench {
         phase,
-        lines: std::num::wrapping_add_u64(b.lines, 1),
+        lines: b.lines.wrapping_add(1),
         held: 0,
     }
 }
@@ -79,7 +82,7 @@ fn bad_line(b: Bench, out: &mut [u8; 64]) -> Text
     ensures stepped { b.lines + 1 < most_lines → (a d s : List ℕ)
         → Stepped (bad (b.lines + 1)) b a d s result.bench (take result.n out.new) }
 {
-    let n = answer_text::bad_line_text(std::num::wrapping_add_u64(b.lines, 1), out);
+    let n = answer_text::bad_line_text(b.lines.wrapping_add(1), out);
     let bench = after(b, Phase::Over);
     Text { bench, n }
 }
