@@ -2,6 +2,7 @@
 // value. Each call copies the record, makes the call of the same name and stores the record that it hands back; a call that
 // hands none back leaves the record as it is. The functions are free since methods stand in their type's own crate.
 #![tactic(auto)]
+
 ghost use Rattle.std.specs.Prelude.{◌≡◌, [], length};
 ghost use Rattle.mem_flash.specs.Run.{flash};
 ghost use Rattle.rules.specs.Calls.{reported, report, Did};

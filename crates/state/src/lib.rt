@@ -1,5 +1,6 @@
 // The boot state and the bytes that stand for it in flash: lib.rs of the crate.
 #![tactic(auto)]
+
 ghost use Rattle.std.specs.Prelude.{◌≡◌, [], ◌∷◌};
 ghost use Rattle.state.specs.Cells.{erased, marked};
 ghost use Rattle.state.specs.Magic.{magic, state_of};
