@@ -1,6 +1,6 @@
 /* The blocking boot loader, firmware state and firmware updater of embassy-boot 0.7.0, proved, for C to link.
  *
- *   rt staticlib embassy_boot                                    makes target/staticlib/libembassy_boot.a, for x86-64 Linux
+ *   ./build                                                      makes target/staticlib/libembassy_boot.a, for x86-64 Linux
  *   cc -Iinclude yours.c target/staticlib/libembassy_boot.a
  *
  * This page says all that a caller needs. docs/RULES.md has the same rules in their own order, docs/DIFFERENCES.md where they

@@ -4,7 +4,7 @@
 use std::env;
 use std::path::Path;
 
-/// What `rt staticlib` makes code for.
+/// What the toolchain makes code for.
 const ARCHITECTURE: &str = "x86_64";
 
 fn main() {
@@ -24,7 +24,7 @@ fn main() {
     }
     if !library.is_file() {
         return say_no(&format!(
-            "{} isn't there: run `rt staticlib embassy_boot` in the repository's root, or set EMBASSY_BOOT_LIB to its folder",
+            "{} isn't there: run `./build` in the repository's root, or set EMBASSY_BOOT_LIB to its folder",
             library.display()
         ));
     }

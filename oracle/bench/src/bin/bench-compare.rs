@@ -32,7 +32,7 @@ fn main() {
     if !wanted.program.is_file() {
         let program = wanted.program.display();
         eprintln!(
-            "{program} isn't there: run `rt check bench` in the repository's root, or name another by --program"
+            "{program} isn't there: run `./build` in the repository's root, or name another by --program"
         );
         exit(2);
     }
