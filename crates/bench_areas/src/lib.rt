@@ -1,7 +1,8 @@
 // The end of the bench program's output, on values: the line that is missing, or the areas in hexadecimal, some bytes at a time. What it
 // gives is the definition `output` of the crate `bench_output`; writing is the caller's.
 #![tactic(auto)]
-ghost use Rattle.std.specs.Prelude.{◌≡◌, ℕ, ◌+◌, ◌%◌, ◌^◌, ◌<◌, ◌≤◌, false, List, [], ◌++◌, length, take};
+
+ghost use Rattle.std.specs.Prelude.{◌≡◌, ℕ, ◌+◌, ◌%◌, ◌^◌, ◌<◌, ◌≤◌, true, false, List, [], ◌++◌, length, take};
 ghost use Rattle.io.specs.Counts.{IsPrefixLen};
 ghost use Rattle.answer_text.specs.Answers.{bad_line_text};
 ghost use Rattle.bench_lines.specs.Machine.{mem, most_lines, Sound, Counted, to_come};
@@ -28,7 +29,8 @@ pub struct Rest {
 }
 
 pub fn is_over(t: Tail) -> bool
-    ensures { result ≡ false → 0 < due t }
+    ensures more { result ≡ false → 0 < due t }
+    ensures none { result ≡ true → t ≡ Tail.Over }
 {
     match t {
         Tail::Active(_, _) => false,
@@ -44,7 +46,7 @@ fn missing(b: Bench, out: &mut [u8; 64]) -> Rest
     ensures prefix_len { IsPrefixLen result.n out.new }
     ensures tail_value { (result.tail ≡ Tail.Over) × (b.lines + 1 < most_lines → take result.n out.new ≡ bad_line_text (b.lines + 1)) }
 {
-    let n = answer_text::bad_line_text(std::num::wrapping_add_u64(b.lines, 1), out);
+    let n = answer_text::bad_line_text(b.lines.wrapping_add(1), out);
     Rest {
         tail: Tail::Over,
         n,
@@ -114,7 +116,7 @@ fn part(
 fn next(at: usize) -> usize
     ensures { result ≡ (at + 32) % 2 ^ 64 }
 {
-    std::num::wrapping_add_usize(at, 32)
+    at.wrapping_add(32)
 }
 
 // The next text: some bytes of an area, or its end and the next one's name.
