@@ -191,14 +191,19 @@ pub fn run(
 
 // ---- what the system refused
 
-// A line on standard error: what failed, and the system's words for it. Of what std prints for an error, its number is left out.
+// Of what std prints for an error the system's own words: all but its number, which is in brackets at the end.
+fn words_of(text: &str) -> &str {
+    match text.split_once(" (os error ") {
+        Some((words, _)) => words,
+        None => text,
+    }
+}
+
+// A line on standard error: what failed, and the system's words for it.
 pub fn complain(rt: &impl Eprint, what: &str, error: &io::Error) -> io::Result<()> {
     let mut text = ArrayString::<512>::new();
     write!(text, "{error}")?;
-    let words = match text.as_str().split_once(" (os error ") {
-        Some((words, _)) => words,
-        None => text.as_str(),
-    };
+    let words = words_of(text.as_str());
     eprintln!(rt; "{what}: {words}")
 }
 
