@@ -18,7 +18,7 @@ use Rattle.bench_run.specs.Runs.{Shown, Fed, Run, Starts, joined, Whole}
 use Rattle.bench_run.specs.Runs as runs
 
 -- one step after another
-then : (m m' m'' : Mem) (i x i' y i'' : List ℕ) → Gone m i x m' i' → Gone m' i' y m'' i'' → Gone m i (x ++ y) m'' i''
+pub then : (m m' m'' : Mem) (i x i' y i'' : List ℕ) → Gone m i x m' i' → Gone m' i' y m'' i'' → Gone m i (x ++ y) m'' i''
 then m m' m'' i x i' y i'' g h =
     record {
       sound = h.sound;
@@ -26,7 +26,7 @@ then m m' m'' i x i' y i'' g h =
       says = g.says ∙ ap (λ (t : List ℕ). x ++ t) h.says ∙ sym (append_assoc x y (to_come m'' i''));
     }
 
-still : (m : Mem) (i i' : List ℕ) → i ≡ i' → Sound m → Counted m i → Gone m i [] m i'
+pub still : (m : Mem) (i i' : List ℕ) → i ≡ i' → Sound m → Counted m i → Gone m i [] m i'
 still m i i' e s c = record { sound = s; counted = rw e at c; says = ap (to_come m) e }
 
 shown : (m : Mem) (t : Tail) (xs : List ℕ) → Shown m t xs → Room t → tail_text t m.active m.dfu m.state ≡ xs
@@ -43,7 +43,7 @@ fed p rest m at xs m'' (runs.Fed.text _ m' _ _ at' x ys go next) s c =
     let g = go rest s c in
     then m m' m'' _ x _ ys rest g (fed p rest m' at' ys m'' next g.sound g.counted)
 
-nothing : (m : Mem) (i : List ℕ) → m.bench.phase ≡ phases.Over → to_come m i ≡ []
+pub nothing : (m : Mem) (i : List ℕ) → m.bench.phase ≡ phases.Over → to_come m i ≡ []
 unfolding to_come stage_of
 nothing m i e =
     let n = m.bench.lines + 1 in
@@ -62,7 +62,7 @@ run m ps xs (runs.Run.piece _ m' p qs x y feed next) s c =
     g.says ∙ ap (λ (t : List ℕ). x ++ t) (run m' qs y next g.sound g.counted)
 
 module _ (m : Mem) (start : Starts m) where
-  starts_sound : Sound m
+  pub starts_sound : Sound m
   unfolding first_of
   starts_sound =
       record {
@@ -72,11 +72,11 @@ module _ (m : Mem) (start : Starts m) where
         fits = rw start.phase tt;
       }
 
-  starts_left : (i : List ℕ) → unread m i ≡ i
+  pub starts_left : (i : List ℕ) → unread m i ≡ i
   unfolding unread
   starts_left i = rw start.none refl
 
-  starts_all : (i : List ℕ) → to_come m i ≡ output i
+  pub starts_all : (i : List ℕ) → to_come m i ≡ output i
   unfolding to_come stage_of output
   starts_all i =
       ap (λ (p : Phase). written (stage_of p m.active m.dfu m.state) (m.bench.lines + 1) (lines (unread m i))) start.phase
