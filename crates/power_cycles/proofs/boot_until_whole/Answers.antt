@@ -14,14 +14,14 @@ pub loop-runs-preserved : goal.loop-runs-preserved
 loop-runs-preserved c =
     record {
       made = made_next c.loop-runs.invariant c.loop-runs-test.true c.prepare_boot-answer.ensures;
-      cut = cut_number c.in-Cut.is;
+      cut = search (rules, cut_number);
       active = search rules;
       dfu = search rules;
       state = search rules;
     }
 
 pub returns-in_default : goal.returns-in_default
-returns-in_default c = cycles (made_next c.loop-runs.invariant c.loop-runs-test.true c.prepare_boot-answer.ensures) (inl (whole _ c.in_default.not-Cut))
+returns-in_default c = cycles (made_next c.loop-runs.invariant c.loop-runs-test.true c.prepare_boot-answer.ensures) (inl (search (rules, whole)))
 
 pub returns : goal.returns
 returns c = cycles c.loop-runs.invariant.made (inr (omega arith))
