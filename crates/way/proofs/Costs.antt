@@ -1,4 +1,4 @@
--- What a step costs: as many operations as stepCost says, which is the next step's cost where the step is next. Serves the bounds of
+-- What a step costs: as many operations as step_cost says, which is the next step's cost where the step is next. Serves the bounds of
 -- `power`, and `every_count`. Assumes nothing.
 use mathlib.Core.Path.{◌≡◌, sym, ap, ◌∙◌}
 use mathlib.Core.Bool.{Bool, true, false}
