@@ -10,7 +10,7 @@ use Rattle.bench_areas.specs.declared.Tail.{Tail}
 use Rattle.bench_areas.specs.Tail.{Room, tail_text}
 use Rattle.numerals.specs.Text.{first as first_of}
 use Rattle.bench_run.specs.Runs.{Last, Closed, Starts}
-use Rattle.bench_run.specs.Writes.{Wrote, Writes, Turned, Running}
+use Rattle.bench_run.specs.Writes.{Wrote, Writes, Turned}
 use Rattle.bench_run.proofs.Whole.{then, still, nothing, starts_sound, starts_left, starts_all}
 
 -- ---- the writer
@@ -74,7 +74,7 @@ finished a b c d m m' x y t last close p q r s k =
 -- a turn that found the input's end
 turned_end : (left a b : Option (List ℕ)) (m m' : Mem) (xs rest : List ℕ) → left ≡ Some rest → xs ≡ [] → rest ≡ [] → m'.held ≡ m.held
     → m'.bench.phase ≡ phases.Over → m'.bench.lines ≡ m.bench.lines → m'.bench.held ≡ 0
-    → (Sound m → Counted m [] → Appends a b (to_come m [])) → Sound m → Counted m xs → Turned left a b m xs m'
+    → (Sound m → Counted m [] → Appends a b (to_come m [])) → Sound m → Counted m xs → Turned left a b (length xs) m xs m'
 unfolding unread first_of
 turned_end left a b m m' xs rest e q none held over lines still h s k =
     let k₀ : Counted m [] = rw q at k in
@@ -95,7 +95,7 @@ turned_end left a b m m' xs rest e q none held over lines still h s k =
 
 pub turned_over : (left left' a b : Option (List ℕ)) (m m' : Mem) (xs bs : List ℕ) → left ≡ Some xs → Consumes left left' bs → bs ≡ []
     → IsAtEnd left' → m'.held ≡ m.held → m'.bench.phase ≡ phases.Over → m'.bench.lines ≡ m.bench.lines → m'.bench.held ≡ 0
-    → (Sound m → Counted m [] → Appends a b (to_come m [])) → Sound m → Counted m xs → Turned left' a b m xs m'
+    → (Sound m → Counted m [] → Appends a b (to_come m [])) → Sound m → Counted m xs → Turned left' a b (length xs) m xs m'
 turned_over left left' a b m m' xs bs e c z at_end held over lines still h s k =
     let (rest, is, q) = read_rest left left' xs bs e c in
     let none = read_end left' rest is at_end in
@@ -103,7 +103,7 @@ turned_over left left' a b m m' xs bs e c z at_end held over lines still h s k =
 
 -- a turn that read something
 turned_rest : (left a b : Option (List ℕ)) (m m' : Mem) (xs bs rest : List ℕ) → left ≡ Some rest → xs ≡ bs ++ rest → 0 < length bs
-    → Writes a b m (bs ++ rest) m' rest → Sound m → Counted m xs → Turned left a b m xs m'
+    → Writes a b m (bs ++ rest) m' rest → Sound m → Counted m xs → Turned left a b (length xs) m xs m'
 turned_rest left a b m m' xs bs rest e q l h s k =
     record {
       rest = rest;
@@ -113,7 +113,7 @@ turned_rest left a b m m' xs bs rest e q l h s k =
     }
 
 pub turned_on : (left left' a b : Option (List ℕ)) (m m' : Mem) (xs bs : List ℕ) → left ≡ Some xs → Consumes left left' bs → 0 < length bs
-    → ((rest : List ℕ) → Writes a b m (bs ++ rest) m' rest) → Sound m → Counted m xs → Turned left' a b m xs m'
+    → ((rest : List ℕ) → Writes a b m (bs ++ rest) m' rest) → Sound m → Counted m xs → Turned left' a b (length xs) m xs m'
 turned_on left left' a b m m' xs bs e c l h s k =
     let (rest, is, q) = read_rest left left' xs bs e c in
     turned_rest left' a b m m' xs bs rest is q l (h rest) s k
@@ -121,7 +121,7 @@ turned_on left left' a b m m' xs bs e c l h s k =
 -- ---- the whole run
 
 pub running_none : (left a : Option (List ℕ)) (m : Mem) (xs : List ℕ) → Starts m → left ≡ Some xs → length xs + 1 < 2 ^ 64
-    → Running left a a 18446744073709551615 m xs m
+    → Turned left a a 18446744073709551615 m xs m
 running_none left a m xs start e few =
     record {
       rest = xs;
@@ -131,7 +131,7 @@ running_none left a m xs start e few =
     }
 
 pub running_on : (left left' a b c : Option (List ℕ)) (n : ℕ) (m m' m'' : Mem) (xs : List ℕ) → 0 < n → (m'.bench.phase ≡ phases.Over → ⊥)
-    → (r : Running left a b n m xs m') → Turned left' b c m' r.rest m'' → Running left' a c (n - 1) m xs m''
+    → (r : Turned left a b n m xs m') → Turned left' b c (length r.rest) m' r.rest m'' → Turned left' a c (n - 1) m xs m''
 running_on left left' a b c n m m' m'' xs l on r t =
     record {
       rest = t.rest;
@@ -143,14 +143,14 @@ running_on left left' a b c n m m' m'' xs l on r t =
       ];
     }
 
-pub ran : (left a b : Option (List ℕ)) (n : ℕ) (m m' : Mem) (xs : List ℕ) → Starts m → Running left a b n m xs m' → m'.bench.phase ≡ phases.Over
+pub ran : (left a b : Option (List ℕ)) (n : ℕ) (m m' : Mem) (xs : List ℕ) → Starts m → Turned left a b n m xs m' → m'.bench.phase ≡ phases.Over
     → Appends a b (output xs)
 ran left a b n m m' xs start r over =
     let w = r.wrote in
     rw (sym (starts_all m start xs) ∙ w.gone.says ∙ ap (λ (t : List ℕ). w.text ++ t) (nothing m' r.rest over) ∙ append-nil w.text) w.grew
 
 -- the turns are not used up before it is over
-pub ran_out : (left a b : Option (List ℕ)) (n : ℕ) (m m' : Mem) (xs : List ℕ) → Starts m → Running left a b n m xs m' → n ≤ 0 → Appends a b (output xs)
+pub ran_out : (left a b : Option (List ℕ)) (n : ℕ) (m m' : Mem) (xs : List ℕ) → Starts m → Turned left a b n m xs m' → n ≤ 0 → Appends a b (output xs)
 ran_out left a b n m m' xs start r z =
     elim r.nearer [ inl over ↦ ran left a b n m m' xs start r over | inr h ↦ absurd (omega (arith, h, z)) ]
 

@@ -15,19 +15,13 @@ pub record Wrote (old new : Option (List ℕ)) (m : Mem) (i : List ℕ) (m' : Me
 abbrev pub Writes : Option (List ℕ) → Option (List ℕ) → Mem → List ℕ → Mem → List ℕ → Type 0
 Writes old new m i m' i' = Sound m → Counted m i → Wrote old new m i m' i'
 
--- the reader had xs left, and some of it was read; less is left, or nothing more is to be read
-pub record Turned (left old new : Option (List ℕ)) (m : Mem) (xs : List ℕ) (m' : Mem) : Type 0 where
+-- the reader had xs left, and some of it was read: fewer than n bytes are left, or nothing more is to be read
+pub record Turned (left old new : Option (List ℕ)) (n : ℕ) (m : Mem) (xs : List ℕ) (m' : Mem) : Type 0 where
   pub rest : List ℕ
   pub is_left : left ≡ Some rest
   pub wrote : Wrote old new m xs m' rest
-  pub nearer : (m'.bench.phase ≡ phases.Over) ⊎ (length rest < length xs)
+  pub nearer : (m'.bench.phase ≡ phases.Over) ⊎ (length rest < n)
 
+-- one turn leaves fewer than there were
 abbrev pub Turns : Option (List ℕ) → Option (List ℕ) → Option (List ℕ) → Mem → List ℕ → Mem → Type 0
-Turns left old new m xs m' = Sound m → Counted m xs → Turned left old new m xs m'
-
--- the same of a whole run so far: there are more turns than bytes that are left, or nothing more is to be read
-pub record Running (left old new : Option (List ℕ)) (turns : ℕ) (m : Mem) (xs : List ℕ) (m' : Mem) : Type 0 where
-  pub rest : List ℕ
-  pub is_left : left ≡ Some rest
-  pub wrote : Wrote old new m xs m' rest
-  pub nearer : (m'.bench.phase ≡ phases.Over) ⊎ (length rest < turns)
+Turns left old new m xs m' = Sound m → Counted m xs → Turned left old new (length xs) m xs m'
