@@ -1,24 +1,10 @@
--- Bytes in pieces: how a loop over them goes on and ends, and that going on from the sum of a first part gives the sum of the whole,
--- for any cutting. Assumes nothing.
+-- Bytes in pieces: going on from the sum of a first part gives the sum of the whole, for any cutting. Assumes nothing.
 use mathlib.Core.Path.{◌≡◌, refl, sym, ap, ◌∙◌}
 use mathlib.Core.List.{List, [], ◌∷◌, ◌++◌, foldl, foldl-append, flatten}
-use Prim.Native.Nat.{ℕ, ◌+◌, ◌<◌, ◌≤◌}
-use native.Mathlib.Numerals.{add-one}
-use lib.ListN.{length, take, drop, get_or, drop_of_length-le, take-append-drop}
-use lib.Seq.{drop-cons}
-use lib.Bits.{bit_xor, xor_zero_r}
+use Prim.Native.Nat.{ℕ}
+use lib.ListN.{take, drop, take-append-drop}
+use lib.Bits.{bit_xor, xor_assoc, xor_zero_r}
 use Rattle.crc32.specs.Crc.{ones, byte, run, crc, go_on}
-use Rattle.crc32.proofs.Xor.{xor_assoc}
-
--- one byte more: what is left gives what was to come
-pub run_next : (l : List ℕ) (i r : ℕ) {s w : ℕ} → i < length l → s ≡ byte r (get_or l i 0) → run r (drop i l) ≡ w → run s (drop (i + 1) l) ≡ w
-unfolding run
-run_next l i r h e o = rw (e, add-one i) (rw (drop-cons l i 0 h) at o)
-
--- nothing is left
-pub run_done : (l : List ℕ) (i : ℕ) {r w : ℕ} → length l ≤ i → run r (drop i l) ≡ w → r ≡ w
-unfolding run
-run_done l i h o = rw (drop_of_length-le l h) at o
 
 -- the register comes back from the sum
 ones_off : (r : ℕ) → bit_xor (bit_xor r ones) ones ≡ r

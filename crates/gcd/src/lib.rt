@@ -5,6 +5,7 @@ ghost use Rattle.std.specs.Prelude.{◌≡◌};
 ghost use Rattle.gcd.specs.Multiple.{Greatest, least_common};
 
 // The remainder falls with each call, to 0.
+#[tactic(auto, using(crate::proofs::Divisors::greatest_end, crate::proofs::Divisors::greatest_turn))]
 pub fn gcd(a: u32, b: u32) -> u32
     ensures { Greatest result a b }
 {
@@ -12,6 +13,7 @@ pub fn gcd(a: u32, b: u32) -> u32
 }
 
 // Divided before it is multiplied, and at 64 bits: it fits whatever the two numbers are.
+#[tactic(auto, using(crate::proofs::Least::by_divisor, crate::proofs::Least::no_divisor, crate::proofs::Least::quotient_times))]
 pub fn least_common(a: u32, b: u32) -> usize
     ensures { result ≡ least_common a b }
 {
