@@ -63,6 +63,6 @@ pub fn hash(z: Sizes, dfu: &[u8], state: &[u8], len: usize, chunk: usize, out: &
         return Answer::Refused(why);
     }
     let s = stream(dfu, len, chunk);
-    sha512::finish(s, out);
+    sha512::finish(s, out).unwrap();
     Answer::Done(0)
 }

@@ -1,14 +1,16 @@
 -- What `add` makes of a stream, by whether the piece fills the block; and that the stream of some bytes goes on to that of more.
 -- Assumes nothing.
-use Rattle.std.proofs.Common.{◌≡◌, ℕ, ◌+◌, ◌-◌, ◌%◌, ◌^◌, ◌<◌, ◌≤◌, List, ◌++◌, length, take, drop, replicate, sym, ap, ◌∙◌, ap₂, append_assoc, arith, length-append, length-drop, take-append-drop, length-take-le, take_all, take_at}
-use lib.Seq.{paste, length-paste, take-length, drop-append-add}
+use Rattle.std.proofs.Common.{◌≡◌, ℕ, ◌+◌, ◌-◌, ◌%◌, ◌^◌, ◌<◌, ◌≤◌, List, ◌++◌, length, take, drop, replicate, sym, ap, ◌∙◌, ap₂, append_assoc, arith, length-append, length-drop, take-append-drop, length-take-le, take_all, take_at, drop_at, refl, ◌/◌, ◌*◌}
+use borrow.Rule.Slice.PartMut.{put_mid}
+use Rattle.std.specs.List.{fold}
+use Rattle.std.specs.Simd.{first_chunks}
 use Rattle.sha512_words.specs.declared.Eight.{Eight}
 use Rattle.sha512_block.specs.Rounds.{compress}
-use Rattle.sha512_bytes.proofs.Stores.{paste_to_end, drop_replicate}
+use Rattle.sha512_bytes.proofs.Stores.{put_end, drop_replicate}
 use Rattle.sha512.specs.declared.Stream.{Stream}
 use Rattle.sha512.specs.Sha512.{h0, hashed}
 use Rattle.sha512.specs.Streams.{left, stream, holding, pending, added, Added}
-use Rattle.sha512.proofs.Blocks.{hashed_block, hashed_short, hashed_on, left_length, left_short, left_behind, left_on}
+use Rattle.sha512.proofs.Blocks.{hashed_block, hashed_chunks, hashed_short, hashed_on, left_length, left_short, left_behind, left_on}
 
 -- a stream is that of some bytes where its parts are
 pub made : (h g : Eight) (c n : ℕ) (b m : List ℕ) → g ≡ hashed m h → c ≡ n % 2 ^ 64 → b ≡ left m ++ replicate (128 - length m % 128) 0
@@ -18,50 +20,57 @@ made h g c n b m eg ec eb = cc
 
 -- ---- a piece that does not fill the block
 
-pub short_block : (b p : List ℕ) (at : ℕ) → length b ≡ 128 → at + length p < 128
-    → paste (take at b ++ replicate (128 - at) 0) at p (length p)
-    ≡ left (take at b ++ p) ++ replicate (128 - length (take at b ++ p) % 128) 0
-short_block b p at hb room =
-    let z : List ℕ = replicate (128 - at) 0 in
-    let la : length (take at b) ≡ at = length-take-le at b (omega arith) in
-    let l : length (take at b ++ p) ≡ at + length p = length-append (take at b) p ∙ ap (λ (k : ℕ). k + length p) la in
-    let rest : drop (at + length p) (take at b ++ z) ≡ replicate (128 - at - length p) 0 =
-    ap (λ (k : ℕ). drop (k + length p) (take at b ++ z)) (sym la)
-    ∙ drop-append-add (take at b) z (length p)
-    ∙ drop_replicate (length p) (128 - at) 0 in
-    let k : 128 - at - length p ≡ 128 - length (take at b ++ p) % 128 = omega (arith, l) in
-    ap₂ (λ (x y : List ℕ). (x ++ take (length p) p) ++ y) (take_at (take at b) z at la) rest
-    ∙ ap (λ (y : List ℕ). (take at b ++ y) ++ replicate (128 - at - length p) 0) (take-length p)
-    ∙ ap₂ (λ (y : List ℕ) (i : ℕ). y ++ replicate i 0) (sym (left_short (take at b ++ p) (omega (arith, l)))) k
+pub short_block : (b p z y : List ℕ) (at k : ℕ) → length b ≡ 128 → at + length p < 128 → k ≡ length p
+    → z ≡ take at b ++ replicate (128 - length (take at b)) 0 → y ≡ p
+    → put_mid at k z y ≡ left (take at b ++ p) ++ replicate (128 - length (take at b ++ p) % 128) 0
+short_block b p z y at k hb room ek ez ey =
+    let t : List ℕ = take at b in
+    let la : length t ≡ at = length-take-le at b (omega arith) in
+    let l : length (t ++ p) ≡ at + length p = length-append t p ∙ ap (λ (i : ℕ). i + length p) la in
+    let zeros : List ℕ = replicate (128 - length t) 0 in
+    let rest : drop k (drop at z) ≡ replicate (128 - length t - k) 0 =
+    ap (λ (x : List ℕ). drop k (drop at x)) ez ∙ ap (drop k) (drop_at t zeros at la) ∙ drop_replicate k (128 - length t) 0 in
+    let n : 128 - length t - k ≡ 128 - length (t ++ p) % 128 = omega (arith, l, la) in
+    ap₂ (λ (x w : List ℕ). x ++ (y ++ w)) (ap (take at) ez ∙ take_at t zeros at la) (rest ∙ ap (λ (i : ℕ). replicate i 0) n)
+    ∙ ap (λ (x : List ℕ). t ++ (x ++ replicate (128 - length (t ++ p) % 128) 0)) ey
+    ∙ sym (append_assoc t p (replicate (128 - length (t ++ p) % 128) 0))
+    ∙ ap (λ (x : List ℕ). x ++ replicate (128 - length (t ++ p) % 128) 0) (sym (left_short (t ++ p) (omega (arith, l))))
 
 -- ---- a piece that fills it: its first bytes go there, then come whole blocks, and what is left is kept
 
-module _ (h : Eight) (b p b1 r : List ℕ) (at f : ℕ) (hb : length b ≡ 128) (hf : at + f ≡ 128) (room : f ≤ length p)
-    (e1 : b1 ≡ paste b at p f) (er : r ≡ take (length p - f) (drop f p)) where
+module _ (h : Eight) (b p y r : List ℕ) (at f : ℕ) (hb : length b ≡ 128) (hf : at + f ≡ 128) (room : f ≤ length p)
+    (ey : y ≡ take f p) (er : r ≡ take (length p - f) (drop f p)) where
+  b1 : List ℕ
+  b1 = put_mid at f b y
+
+  filled : b1 ≡ take at b ++ take f p
+  unfolding b1
+  filled = put_end b y at f (omega arith) ∙ ap (λ (x : List ℕ). take at b ++ x) ey
+
   full : length b1 ≡ 128
-  full = ap length e1 ∙ length-paste b at p f (omega arith) room ∙ hb
+  full = ap length filled ∙ length-append (take at b) (take f p) ∙ omega (arith, length-take-le at b (omega arith), length-take-le f p room)
 
   joins : b1 ++ r ≡ take at b ++ p
   joins =
-      ap₂ (λ (x y : List ℕ). x ++ y) (e1 ∙ paste_to_end b p at f (omega arith)) (er ∙ take_all (length p - f) (drop f p) (omega (arith, length-drop f p)))
+      ap₂ (λ (x w : List ℕ). x ++ w) filled (er ∙ take_all (length p - f) (drop f p) (omega (arith, length-drop f p)))
       ∙ append_assoc (take at b) (take f p) (drop f p)
-      ∙ ap (λ (y : List ℕ). take at b ++ y) (take-append-drop f p)
+      ∙ ap (λ (x : List ℕ). take at b ++ x) (take-append-drop f p)
 
-  pub long_hash : (one all : Eight) → one ≡ compress h b1 → all ≡ hashed r one → all ≡ hashed (take at b ++ p) h
+  pub long_hash : (one all : Eight) → one ≡ compress h (put_mid at f b y) → all ≡ fold compress one (first_chunks 128 (length r / 128) r)
+      → all ≡ hashed (take at b ++ p) h
+  unfolding hashed b1
   long_hash one all eone eall =
-      eall ∙ ap (hashed r) eone ∙ sym (hashed_block b1 r h full) ∙ ap (λ (y : List ℕ). hashed y h) joins
+      eall ∙ hashed_chunks (length r / 128) r one ∙ ap (hashed r) eone ∙ sym (hashed_block b1 r h full) ∙ ap (λ (x : List ℕ). hashed x h) joins
 
-  pub long_block : (t b3 : List ℕ) → t ≡ take (length r - (length r - length r % 128)) (drop (length r - length r % 128) r)
-      → b3 ≡ take (length t) t ++ replicate (128 - length t) 0
+  pub long_block : (t b3 : List ℕ) → t ≡ drop (length r / 128 * 128) r → b3 ≡ t ++ replicate (128 - length t) 0
       → b3 ≡ left (take at b ++ p) ++ replicate (128 - length (take at b ++ p) % 128) 0
   unfolding left
   long_block t b3 et e3 =
-      let st : ℕ = length r - length r % 128 in
-      let t' : t ≡ left r = et ∙ take_all (length r - st) (drop st r) (omega (arith, length-drop st r)) in
+      let st : length r / 128 * 128 ≡ length r - length r % 128 = omega arith in
       let k : length b1 % 128 ≡ 0 = omega (arith, full) in
-      let e : t ≡ left (take at b ++ p) = t' ∙ sym (left_behind b1 r k) ∙ ap left joins in
+      let e : t ≡ left (take at b ++ p) = et ∙ ap (λ (i : ℕ). drop i r) st ∙ sym (left_behind b1 r k) ∙ ap left joins in
       let n : length t ≡ length (take at b ++ p) % 128 = ap length e ∙ left_length (take at b ++ p) in
-      e3 ∙ ap (λ (y : List ℕ). y ++ replicate (128 - length t) 0) (take-length t ∙ e) ∙ ap (λ (i : ℕ). left (take at b ++ p) ++ replicate (128 - i) 0) n
+      e3 ∙ ap₂ (λ (x : List ℕ) (i : ℕ). x ++ replicate (128 - i) 0) e n
 
 -- ---- the stream of some bytes
 
@@ -85,32 +94,31 @@ adds s p r e = record { exact = e; holds = λ m h. e ∙ ap (λ (t : Stream). ad
 
 -- ---- as `add` makes it
 
-module _ (s : Stream) (p : List ℕ) (n : ℕ) (hb : length s.block ≡ 128) (en : n ≡ (s.count + length p) % 2 ^ 64) where
-  pub short : (z b : List ℕ) → s.count % 128 + length p < 128
-      → z ≡ take (s.count % 128) s.block ++ replicate (128 - s.count % 128) 0
-      → b ≡ paste z (s.count % 128) p (length p)
-      → Added s p (record { hash = s.hash; count = n; block = b })
+module _ (s : Stream) (p : List ℕ) (hb : length s.block ≡ 128) where
+  pub short : (z y : List ℕ) (k : ℕ) → s.count % 128 + length p < 128 → k ≡ length p
+      → z ≡ take (s.count % 128) s.block ++ replicate (128 - length (take (s.count % 128) s.block)) 0 → y ≡ p
+      → Added s p (record { hash = s.hash; count = (s.count + length p) % 2 ^ 64; block = put_mid (s.count % 128) k z y })
   unfolding added pending
-  short z b room ez eb =
+  short z y k room ek ez ey =
       let at : ℕ = s.count % 128 in
       let m : List ℕ = take at s.block ++ p in
       let l : length m < 128 = omega (arith, length-append (take at s.block) p, length-take-le at s.block (omega arith)) in
-      adds s p (record { hash = s.hash; count = n; block = b })
-      (made s.hash s.hash n (s.count + length p) b m (sym (hashed_short m s.hash l)) en
-      (eb ∙ ap (λ (y : List ℕ). paste y at p (length p)) ez ∙ short_block s.block p at hb room))
+      adds s p (record { hash = s.hash; count = (s.count + length p) % 2 ^ 64; block = put_mid at k z y })
+      (made s.hash s.hash ((s.count + length p) % 2 ^ 64) (s.count + length p) (put_mid at k z y) m (sym (hashed_short m s.hash l)) refl
+      (short_block s.block p z y at k hb room ek ez ey))
 
-  pub long : (one all : Eight) (b1 r t b : List ℕ) → 128 - s.count % 128 ≤ length p
-      → b1 ≡ paste s.block (s.count % 128) p (128 - s.count % 128)
+  pub long : (one all : Eight) (y r t b : List ℕ) → 128 - s.count % 128 ≤ length p → y ≡ take (128 - s.count % 128) p
       → r ≡ take (length p - (128 - s.count % 128)) (drop (128 - s.count % 128) p)
-      → one ≡ compress s.hash b1 → all ≡ hashed r one
-      → t ≡ take (length r - (length r - length r % 128)) (drop (length r - length r % 128) r)
-      → b ≡ take (length t) t ++ replicate (128 - length t) 0
-      → Added s p (record { hash = all; count = n; block = b })
+      → one ≡ compress s.hash (put_mid (s.count % 128) (128 - s.count % 128) s.block y)
+      → all ≡ fold compress one (first_chunks 128 (length r / 128) r)
+      → t ≡ drop (length r / 128 * 128) r
+      → b ≡ t ++ replicate (128 - length t) 0
+      → Added s p (record { hash = all; count = (s.count + length p) % 2 ^ 64; block = b })
   unfolding added pending
-  long one all b1 r t b room e1 er eone eall et eb =
+  long one all y r t b room ey er eone eall et eb =
       let at : ℕ = s.count % 128 in
       let hf : at + (128 - at) ≡ 128 = omega arith in
-      adds s p (record { hash = all; count = n; block = b })
-      (made s.hash all n (s.count + length p) b (take at s.block ++ p)
-      (long_hash s.hash s.block p b1 r at (128 - at) hb hf room e1 er one all eone eall) en
-      (long_block s.hash s.block p b1 r at (128 - at) hb hf room e1 er t b et eb))
+      adds s p (record { hash = all; count = (s.count + length p) % 2 ^ 64; block = b })
+      (made s.hash all ((s.count + length p) % 2 ^ 64) (s.count + length p) b (take at s.block ++ p)
+      (long_hash s.hash s.block p y r at (128 - at) hb hf room ey er one all eone eall) refl
+      (long_block s.hash s.block p y r at (128 - at) hb hf room ey er t b et eb))

@@ -1,6 +1,8 @@
 -- Block after block: what a list's whole blocks make of a hash value, and what is left. Assumes nothing.
-use Rattle.std.proofs.Common.{◌≡◌, ℕ, zero, suc, ◌+◌, ◌-◌, ◌/◌, ◌%◌, ◌<◌, ◌≤◌, List, [], ◌++◌, length, take, drop, sym, refl, ap, ◌∙◌, ap₂, append_assoc, append-nil, arith, length-append, length-drop, take-append-drop, length-take-le, drop-drop, take_at, drop_at}
+use Rattle.std.proofs.Common.{◌≡◌, ℕ, zero, suc, ◌+◌, ◌-◌, ◌/◌, ◌%◌, ◌<◌, List, [], ◌++◌, length, take, drop, sym, refl, ap, ◌∙◌, ap₂, append_assoc, append-nil, arith, length-append, length-drop, take-append-drop, length-take-le, take_at, drop_at}
 use lib.Seq.{drop-append-add}
+use Rattle.std.specs.List.{fold}
+use Rattle.std.specs.Simd.{first_chunks}
 use Rattle.sha512_words.specs.declared.Eight.{Eight}
 use Rattle.sha512_block.specs.Rounds.{compress}
 use Rattle.sha512.specs.Sha512.{blocks, hashed}
@@ -25,14 +27,11 @@ pub hashed_one : (b : List ℕ) (s : Eight) → length b ≡ 128 → hashed b s 
 hashed_one b s h =
     ap (λ (y : List ℕ). hashed y s) (sym (append-nil b)) ∙ hashed_block b [] s h ∙ hashed_short [] (compress s b) (omega arith)
 
--- one block of what stands from i on
-pub hashed_step : (b : List ℕ) (i : ℕ) (s : Eight) → i + 128 ≤ length b
-    → hashed (drop i b) s ≡ hashed (drop (i + 128) b) (compress s (take 128 (drop i b)))
-hashed_step b i s h =
-    let l : length (take 128 (drop i b)) ≡ 128 = length-take-le 128 (drop i b) (omega (arith, length-drop i b)) in
-    ap (λ (y : List ℕ). hashed y s) (sym (take-append-drop 128 (drop i b)))
-    ∙ hashed_block (take 128 (drop i b)) (drop 128 (drop i b)) s l
-    ∙ ap (λ (y : List ℕ). hashed y (compress s (take 128 (drop i b)))) (drop-drop 128 i b)
+-- .. of the blocks that a slice is cut into
+pub hashed_chunks : (n : ℕ) (m : List ℕ) (s : Eight) → fold compress s (first_chunks 128 n m) ≡ blocks n m s
+unfolding blocks
+hashed_chunks zero m s = refl
+hashed_chunks (suc n) m s = hashed_chunks n (drop 128 m) (compress s (take 128 m))
 
 -- ---- what is left
 

@@ -21,14 +21,14 @@ unfolding padding zeros
 padding_is c k e = ap (λ (i : ℕ). 0x80 ∷ (replicate i 0 ++ bits16 c)) e
 
 -- the bytes p, a 1 bit and zeros, of which the last 16 bytes or all of another block make room for the length
-module _ (p b : List ℕ) (c : ℕ) (h : Eight) (hp : length p ≡ c % 128) (eb : b ≡ set (p ++ replicate (128 - c % 128) 0) (c % 128) 0x80) where
+module _ (p b : List ℕ) (c : ℕ) (h : Eight) (hp : length p ≡ c % 128) (eb : b ≡ set (p ++ replicate (128 - length p) 0) (c % 128) 0x80) where
   at : ℕ
   at = c % 128
 
   started : b ≡ p ++ (0x80 ∷ zeros (127 - at))
   unfolding at zeros
   started =
-      let k : 128 - c % 128 ≡ suc (127 - c % 128) = omega arith in
+      let k : 128 - length p ≡ suc (127 - c % 128) = omega (arith, hp) in
       eb
       ∙ ap (λ (i : ℕ). set (p ++ replicate i 0) (c % 128) 0x80) k
       ∙ set_at p 0 (replicate (127 - c % 128) 0) 0x80 (c % 128) hp

@@ -1,8 +1,9 @@
 // SHA-512 (FIPS 180-4) of bytes that come in pieces: 02, No. 8. No function asks anything of its caller.
 #![tactic(auto)]
 
-ghost use Rattle.std.specs.Prelude.{◌≡◌, [], ◌++◌};
-ghost use Rattle.sha512_block.specs.Constants.{ks};
+ghost use Rattle.std.specs.List.{fold};
+ghost use Rattle.std.specs.Prelude.{◌≡◌, [], ◌++◌, is_ok};
+ghost use Rattle.sha512_block.specs.Rounds.{compress};
 ghost use Rattle.sha512.specs.Sha512.{padding, hashed};
 ghost use Rattle.sha512.specs.Streams.{holding, pending, Added, Finished};
 
@@ -11,7 +12,8 @@ use sha512_bytes as bytes;
 use sha512_words::Eight;
 
 // The hash value after the whole blocks that were added; how many bytes were added, modulo 2^64; and those that make no whole block
-// yet, which are the first count % 128 of the block.
+// yet, which are the first count % 128 of the block: the padding wants the count anyway, so a vector would hold a length twice. `begin`,
+// `add` and `finish` stay functions beside it: the documents name them so.
 #[derive(Drop)]
 pub struct Stream {
     pub hash: Eight,
@@ -39,19 +41,11 @@ pub fn begin() -> Stream
     }
 }
 
-// The hash value after the whole blocks of b.
-fn whole(s: Eight, b: &[u8], k: &[u64; 80]) -> Eight
-    requires { k.now ≡ ks }
-    ensures { result ≡ hashed b.now s }
+// The hash value after some blocks.
+fn whole(s: Eight, blocks: &[[u8; 128]]) -> Eight
+    ensures { result ≡ fold compress s blocks.now }
 {
-    let mut r = s;
-    let mut i = 0;
-    while 128 <= b.len() - i {
-        let e = i + 128;
-        r = block::compress(r, &b[i..e], k);
-        i = e;
-    }
-    r
+    blocks.iter().fold(s, |r, b| block::compress(r, b))
 }
 
 // One piece more. It is read where it stands: of a longer slice a part can be lent.
@@ -59,23 +53,20 @@ pub fn add(s: Stream, piece: &[u8]) -> Stream
     ensures { Added s piece.now result }
 {
     let at = (s.count % 128) as usize;
-    let count = std::num::wrapping_add_u64(s.count, piece.len() as u64);
+    let count = s.count.wrapping_add(piece.len() as u64);
     let hash = s.hash;
     let mut first = s.block;
     let room = 128 - at;
     if piece.len() < room {
-        let mut block = bytes::block_of(&first, at);
-        bytes::store(&mut block, at, piece, piece.len());
+        let mut block = bytes::block_of(&first[..at]);
+        block[at..at + piece.len()].copy_from_slice(piece);
         return Stream { hash, count, block };
     }
-    bytes::store(&mut first, at, piece, room);
-    let k = block::table();
-    let one = block::compress(hash, &first, &k);
-    let rest = &piece[room..];
-    let all = whole(one, rest, &k);
-    let start = rest.len() - rest.len() % 128;
-    let tail = &rest[start..];
-    let block = bytes::block_of(tail, tail.len());
+    first[at..].copy_from_slice(&piece[..room]);
+    let one = block::compress(hash, &first);
+    let (blocks, tail) = piece[room..].as_chunks::<128>();
+    let all = whole(one, blocks);
+    let block = bytes::block_of(tail);
     Stream {
         hash: all,
         count,
@@ -90,27 +81,28 @@ fn last(s: Stream) -> Eight
     let n = s.count;
     let at = (n % 128) as usize;
     let hash = s.hash;
-    let held = s.block;
-    let k = block::table();
-    let mut block = bytes::block_of(&held, at);
+    let mut block = bytes::block_of(&s.block[..at]);
     block[at] = 0x80;
     if at < 112 {
         let end = bytes::with_length(block, n);
-        return block::compress(hash, &end, &k);
+        return block::compress(hash, &end);
     }
-    let one = block::compress(hash, &block, &k);
+    let one = block::compress(hash, &block);
     let end = bytes::with_length([0u8; 128], n);
-    block::compress(one, &end, &k)
+    block::compress(one, &end)
 }
 
-// The digest of all the bytes that were added, fewer than 2^64, into 64 bytes; an output of another length stays as it is, and the
-// answer is false.
-pub fn finish(s: Stream, out: &mut [u8]) -> bool
-    ensures { Finished s out.old result out.new }
+// An output of another length than 64.
+#[derive(Clone, Copy, Debug, PartialEq, Eq)]
+pub struct WrongLength;
+
+// The digest of all the bytes that were added, fewer than 2^64, into 64 bytes; an output of another length stays as it is.
+pub fn finish(s: Stream, out: &mut [u8]) -> Result<(), WrongLength>
+    ensures { Finished s out.old (is_ok result) out.new }
 {
     if out.len() != 64 {
-        return false;
+        return Err(WrongLength);
     }
     bytes::put_all(out, last(s));
-    true
+    Ok(())
 }

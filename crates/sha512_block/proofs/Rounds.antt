@@ -123,26 +123,15 @@ round_one ws w n t u s r eu h hn l e er =
     let g : get_or w t 0 ≡ get_or ws t 0 = sym (get_or-take n w t 0 h) ∙ ap (λ (y : List ℕ). get_or y t 0) (sym e) ∙ get_or-take n ws t 0 h in
     ap₂ (λ (i : ℕ) (y : Eight). rounds_from i ws y) eu (er ∙ ap (round s (get_or ks t 0)) g) ∙ round_more ws t s (omega arith) l
 
-pub eight_more : (w : List ℕ) (t : ℕ) (s s1 s2 s3 s4 s5 s6 s7 s8 : Eight) → t + 8 ≤ 80
-    → s1 ≡ round s (get_or ks t 0) (get_or w t 0)
-    → s2 ≡ round s1 (get_or ks (t + 1) 0) (get_or w (t + 1) 0)
-    → s3 ≡ round s2 (get_or ks (t + 2) 0) (get_or w (t + 2) 0)
-    → s4 ≡ round s3 (get_or ks (t + 3) 0) (get_or w (t + 3) 0)
-    → s5 ≡ round s4 (get_or ks (t + 4) 0) (get_or w (t + 4) 0)
-    → s6 ≡ round s5 (get_or ks (t + 5) 0) (get_or w (t + 5) 0)
-    → s7 ≡ round s6 (get_or ks (t + 6) 0) (get_or w (t + 6) 0)
-    → s8 ≡ round s7 (get_or ks (t + 7) 0) (get_or w (t + 7) 0)
-    → Passed t (t + 8) w s s8
+pub passed_none : (w : List ℕ) (t : ℕ) (s : Eight) → Passed t t w s s
 unfolding Passed
-eight_more w t s s1 s2 s3 s4 s5 s6 s7 s8 h e1 e2 e3 e4 e5 e6 e7 e8 ws l e =
-    round_one ws w (t + 8) (t + 7) (t + 8) s7 s8 (omega arith) (omega arith) h l e e8
-    ∙ round_one ws w (t + 8) (t + 6) (t + 7) s6 s7 (omega arith) (omega arith) h l e e7
-    ∙ round_one ws w (t + 8) (t + 5) (t + 6) s5 s6 (omega arith) (omega arith) h l e e6
-    ∙ round_one ws w (t + 8) (t + 4) (t + 5) s4 s5 (omega arith) (omega arith) h l e e5
-    ∙ round_one ws w (t + 8) (t + 3) (t + 4) s3 s4 (omega arith) (omega arith) h l e e4
-    ∙ round_one ws w (t + 8) (t + 2) (t + 3) s2 s3 (omega arith) (omega arith) h l e e3
-    ∙ round_one ws w (t + 8) (t + 1) (t + 2) s1 s2 (omega arith) (omega arith) h l e e2
-    ∙ round_one ws w (t + 8) t (t + 1) s s1 (omega arith) (omega arith) h l e e1
+passed_none w t s ws l e = refl
+
+pub passed_more : (w : List ℕ) (t i : ℕ) (s x r : Eight) → i < 80 → Passed t i w s x → r ≡ round x (get_or ks i 0) (get_or w i 0)
+    → Passed t (i + 1) w s r
+unfolding Passed
+passed_more w t i s x r h p er ws l e =
+    round_one ws w (i + 1) i (i + 1) x r refl (omega arith) (omega arith) l e er ∙ p ws l (fewer i (i + 1) ws w (omega arith) e)
 
 pub rounds_none : (ws : List ℕ) (s : Eight) → rounds_from 0 ws s ≡ rounds ks ws s
 unfolding rounds_from

@@ -1,13 +1,8 @@
 -- Any two results that a contract of this crate allows for one input are equal: each is an equation. Assumes nothing.
 use mathlib.Core.Path.{refl, sym, ◌∙◌}
 use Rattle.state.specs.OneResult.{OneResult}
-use Rattle.sha512_block.proofs.table.Kinds as table_kinds
-use Rattle.sha512_block.proofs.table.Reads as table
 use Rattle.sha512_block.proofs.compress.Kinds as compress_kinds
 use Rattle.sha512_block.proofs.compress.Reads as compress
-
-pub table_unique : OneResult table_kinds.ps table_kinds.r table.Post
-table_unique κs a x y v w p q = (p ∙ sym q, refl)
 
 pub compress_unique : OneResult compress_kinds.ps compress_kinds.r compress.Post
 compress_unique κs a x y v w p q = (p ∙ sym q, refl)

@@ -1,8 +1,7 @@
 // One block: the schedule of its words, and the eighty rounds (FIPS 180-4, section 6.4.2).
 #![tactic(auto)]
 
-ghost use Rattle.std.specs.Prelude.{◌≡◌, ◌+◌, ◌*◌, ◌^◌, ◌≤◌, ◌<◌, length, get_or, take};
-ghost use Rattle.sha512_block.specs.Constants.{ks};
+ghost use Rattle.std.specs.Prelude.{◌≡◌, ◌+◌, ◌≤◌, ◌<◌, take};
 ghost use Rattle.sha512_block.specs.Partly.{Extended, Passed};
 ghost use Rattle.sha512_block.specs.Rounds as def;
 
@@ -11,33 +10,13 @@ use sha512_words::Eight;
 
 mod constants;
 
-// The constants. A constant array that is indexed is laid out anew at each place, so a caller gets them once for many blocks.
-pub fn table() -> [u64; 80]
-    ensures { result ≡ ks }
-{
-    constants::K
-}
-
-// Eight bytes as a word, the highest first. The compiler makes one load of it where `|` comes last, and eight loads where `+` does.
-fn word_of(a: u8, b: u8, c: u8, d: u8, e: u8, f: u8, g: u8, h: u8) -> u64
-    ensures { result ≡ a * 2 ^ 56 + b * 2 ^ 48 + c * 2 ^ 40 + d * 2 ^ 32 + e * 2 ^ 24 + f * 2 ^ 16 + g * 2 ^ 8 + h }
-{
-    ((a as u64) * 0x100_0000_0000_0000
-        + (b as u64) * 0x1_0000_0000_0000
-        + (c as u64) * 0x100_0000_0000
-        + (d as u64) * 0x1_0000_0000
-        + (e as u64) * 0x100_0000
-        + (f as u64) * 0x1_0000
-        + (g as u64) * 0x100)
-        | (h as u64)
-}
-
-// The word at an index of the bytes.
-fn word_at(b: &[u8], i: usize) -> u64
-    requires { i + 8 ≤ length b.now }
+// The word whose eight bytes, the highest first, stand at an index; listed as its definition lists them.
+#[tactic(auto, unfolding(crate::specs::Rounds::word_at))]
+fn word_at(b: &[u8; 128], i: usize) -> u64
+    requires { i + 8 ≤ 128 }
     ensures { result ≡ def.word_at b.now i }
 {
-    word_of(
+    u64::from_be_bytes([
         b[i],
         b[i + 1],
         b[i + 2],
@@ -46,9 +25,10 @@ fn word_at(b: &[u8], i: usize) -> u64
         b[i + 5],
         b[i + 6],
         b[i + 7],
-    )
+    ])
 }
 
+#[tactic(auto, unfolding(crate::specs::Rounds::round, crate::specs::Rounds::t1, crate::specs::Rounds::t2))]
 fn round(s: Eight, k: u64, w: u64) -> Eight
     ensures { result ≡ def.round s k w }
 {
@@ -75,6 +55,8 @@ fn round(s: Eight, k: u64, w: u64) -> Eight
     }
 }
 
+// Word by word: they are fields with the standard's letters, and a loop would need the same eight in an array first.
+#[tactic(auto, unfolding(crate::specs::Rounds::plus))]
 fn plus(s: Eight, t: Eight) -> Eight
     ensures { result ≡ def.plus s t }
 {
@@ -91,6 +73,7 @@ fn plus(s: Eight, t: Eight) -> Eight
 }
 
 // The word of the schedule at t, from those before it.
+#[tactic(auto, unfolding(crate::specs::Rounds::mixed))]
 fn mixed(w: &[u64; 80], t: usize) -> u64
     requires { (16 ≤ t) × (t < 80) }
     ensures { result ≡ def.mixed t w.now }
@@ -105,70 +88,50 @@ fn mixed(w: &[u64; 80], t: usize) -> u64
 }
 
 // The block's own words, as the first sixteen of the schedule.
-fn load(b: &[u8]) -> [u64; 80]
-    requires { length b.now ≡ 128 }
+fn load(b: &[u8; 128]) -> [u64; 80]
     ensures { take 16 (def.schedule b.now) ≡ take 16 result }
 {
     let mut w = [0u64; 80];
-    let mut t = 0;
-    while t < 16 {
+    for t in 0..16 {
         w[t] = word_at(b, 8 * t);
-        t += 1;
     }
     w
 }
 
 // Eight words more, where the first u are there.
 fn extend(w: &mut [u64; 80], u: usize)
-    requires { (16 ≤ u) × (u + 8 ≤ 80) × (length w.old ≡ 80) }
+    requires { (16 ≤ u) × (u + 8 ≤ 80) }
     ensures { Extended u w.old w.new }
 {
-    let end = u + 8;
-    let mut i = u;
-    while i < end {
-        let v = mixed(w, i);
-        w[i] = v;
-        i += 1;
+    for t in u..u + 8 {
+        w[t] = mixed(w, t);
     }
 }
 
-// The round at t.
-fn round_at(s: Eight, w: &[u64; 80], k: &[u64; 80], t: usize) -> Eight
-    requires { (t < 80) × (k.now ≡ ks) }
-    ensures { result ≡ def.round s (get_or ks t 0) (get_or w.now t 0) }
-{
-    round(s, k[t], w[t])
-}
-
 // Eight rounds, from t on.
-fn eight_rounds(s: Eight, w: &[u64; 80], k: &[u64; 80], t: usize) -> Eight
-    requires { (t + 8 ≤ 80) × (k.now ≡ ks) }
+fn eight_rounds(s: Eight, w: &[u64; 80], t: usize) -> Eight
+    requires { t + 8 ≤ 80 }
     ensures { Passed t (t + 8) w.now s result }
 {
-    let s1 = round_at(s, w, k, t);
-    let s2 = round_at(s1, w, k, t + 1);
-    let s3 = round_at(s2, w, k, t + 2);
-    let s4 = round_at(s3, w, k, t + 3);
-    let s5 = round_at(s4, w, k, t + 4);
-    let s6 = round_at(s5, w, k, t + 5);
-    let s7 = round_at(s6, w, k, t + 6);
-    round_at(s7, w, k, t + 7)
+    let mut x = s;
+    for i in t..t + 8 {
+        x = round(x, constants::K[i], w[i]);
+    }
+    x
 }
 
 // The hash value after one more block. The schedule is made as the rounds go, eight words for eight rounds: the two do not wait for
 // each other.
-pub fn compress(s: Eight, b: &[u8], k: &[u64; 80]) -> Eight
-    requires { (length b.now ≡ 128) × (k.now ≡ ks) }
+pub fn compress(s: Eight, b: &[u8; 128]) -> Eight
     ensures { result ≡ def.compress s b.now }
 {
     let mut w = load(b);
     let mut x = s;
-    let mut t = 0;
-    while t < 80 {
-        x = eight_rounds(x, &w, k, t);
-        t += 8;
-        if t <= 64 {
-            extend(&mut w, t + 8);
+    for turn in 0..10 {
+        let t = 8 * turn;
+        x = eight_rounds(x, &w, t);
+        if t < 64 {
+            extend(&mut w, t + 16);
         }
     }
     plus(x, s)

@@ -4,17 +4,12 @@ use mathlib.Core.Path.{refl, sym, ap, ◌∙◌}
 use mathlib.Core.List.{List}
 use Prim.Native.Nat.{ℕ}
 use Rattle.state.specs.OneResult.{OneResult}
-use Rattle.sha512_bytes.proofs.store.Kinds as store_kinds
-use Rattle.sha512_bytes.proofs.store.Reads as store
 use Rattle.sha512_bytes.proofs.block_of.Kinds as block_of_kinds
 use Rattle.sha512_bytes.proofs.block_of.Reads as block_of
 use Rattle.sha512_bytes.proofs.with_length.Kinds as with_length_kinds
 use Rattle.sha512_bytes.proofs.with_length.Reads as with_length
 use Rattle.sha512_bytes.proofs.put_all.Kinds as put_all_kinds
 use Rattle.sha512_bytes.proofs.put_all.Reads as put_all_reads
-
-pub store_unique : OneResult store_kinds.ps store_kinds.r store.Post
-store_unique κs a x y v w p q = (refl, ap (λ (l : List ℕ). (l, (tt, (tt, (tt, tt))))) (p ∙ sym q))
 
 pub block_of_unique : OneResult block_of_kinds.ps block_of_kinds.r block_of.Post
 block_of_unique κs a x y v w p q = (p ∙ sym q, refl)

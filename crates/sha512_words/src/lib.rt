@@ -18,44 +18,53 @@ pub struct Eight {
     pub h: u64,
 }
 
+// By the supplied wrapping add. It stays a function beside the method: the rounds then read `sum`, as the definitions do.
+#[tactic(auto, unfolding(crate::specs::Words::sum))]
 pub fn sum(x: u64, y: u64) -> u64
     ensures { result ≡ def.sum x y }
 {
-    std::num::wrapping_add_u64(x, y)
+    x.wrapping_add(y)
 }
 
+#[tactic(auto, using(crate::proofs::Bits::ch_short_lem))]
 pub fn ch(x: u64, y: u64, z: u64) -> u64
     ensures { result ≡ def.ch x y z }
 {
     ((y ^ z) & x) ^ z
 }
 
+#[tactic(auto, using(crate::proofs::Bits::maj_short_lem))]
 pub fn maj(x: u64, y: u64, z: u64) -> u64
     ensures { result ≡ def.maj x y z }
 {
     ((x ^ y) & (y ^ z)) ^ y
 }
 
+// FIPS 180-4 names the four that follow; each is a line, so const parameters for what they turn by are no plainer.
+#[tactic(auto, unfolding(crate::specs::Words::big_sigma0, crate::specs::Words::rotr))]
 pub fn big_sigma0(x: u64) -> u64
     ensures { result ≡ def.big_sigma0 x }
 {
-    (x >> 28 | x << 36) ^ (x >> 34 | x << 30) ^ (x >> 39 | x << 25)
+    x.rotate_right(28) ^ x.rotate_right(34) ^ x.rotate_right(39)
 }
 
+#[tactic(auto, unfolding(crate::specs::Words::big_sigma1, crate::specs::Words::rotr))]
 pub fn big_sigma1(x: u64) -> u64
     ensures { result ≡ def.big_sigma1 x }
 {
-    (x >> 14 | x << 50) ^ (x >> 18 | x << 46) ^ (x >> 41 | x << 23)
+    x.rotate_right(14) ^ x.rotate_right(18) ^ x.rotate_right(41)
 }
 
+#[tactic(auto, unfolding(crate::specs::Words::small_sigma0, crate::specs::Words::rotr, crate::specs::Words::shr))]
 pub fn small_sigma0(x: u64) -> u64
     ensures { result ≡ def.small_sigma0 x }
 {
-    (x >> 1 | x << 63) ^ (x >> 8 | x << 56) ^ (x >> 7)
+    x.rotate_right(1) ^ x.rotate_right(8) ^ (x >> 7)
 }
 
+#[tactic(auto, unfolding(crate::specs::Words::small_sigma1, crate::specs::Words::rotr, crate::specs::Words::shr))]
 pub fn small_sigma1(x: u64) -> u64
     ensures { result ≡ def.small_sigma1 x }
 {
-    (x >> 19 | x << 45) ^ (x >> 61 | x << 3) ^ (x >> 6)
+    x.rotate_right(19) ^ x.rotate_right(61) ^ (x >> 6)
 }

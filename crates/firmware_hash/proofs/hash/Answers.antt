@@ -14,6 +14,11 @@ stream-s-requires c =
     let k = asked a.z a.len a.chunk a.out.now a.dfu.now a.state.now c.hash_verdict-judged.ensures c.in_default.is in
     (k.0, k.1)
 
+pub unwrap-requires : goal.unwrap-requires
+unwrap-requires c =
+    let a = c.args in
+    c.finish.ensures.fits ∙ (asked a.z a.len a.chunk a.out.now a.dfu.now a.state.now c.hash_verdict-judged.ensures c.in_default.is).2
+
 pub returns : goal.returns
 returns c =
     let f = c.finish.ensures in

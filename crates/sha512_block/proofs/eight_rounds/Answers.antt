@@ -1,9 +1,16 @@
--- `sha512_block::eight_rounds` meets its contract: eight rounds in a row. Assumes nothing.
-use native.Mathlib.Omega.{arith}
-use Rattle.sha512_block.proofs.Rounds.{eight_more}
+-- `sha512_block::eight_rounds` meets its contract: one round more a turn. Assumes nothing.
+use Rattle.std.proofs.Common.{arith}
+use Rattle.sha512_block.specs.Constants.{ks}
+use Rattle.sha512_block.proofs.Rounds.{passed_none, passed_more}
 use Rattle.sha512_block.proofs.eight_rounds.Goals as goal
 
-pub returns : goal.returns
-returns c =
+pub loop-i-init : goal.loop-i-init
+loop-i-init c = passed_none c.args.w.now c.args.t c.args.s
+
+pub loop-i-preserved : goal.loop-i-preserved
+unfolding ks
+loop-i-preserved c =
     let a = c.args in
-    eight_more a.w.now a.t a.s _ _ _ _ _ _ _ _ (omega (arith, c.requires)) c.round_at-s1.ensures c.round_at-s2.ensures c.round_at-s3.ensures c.round_at-s4.ensures c.round_at-s5.ensures c.round_at-s6.ensures c.round_at-s7.ensures c.round_at.ensures
+    let r = c.loop-i in
+    passed_more a.w.now a.t r.i a.s r.x c.round-x.result (omega arith) r.invariant
+    c.round-x.ensures

@@ -1,15 +1,9 @@
--- `sha512_bytes::put_all` meets its contract: eight words in a row. Assumes nothing.
-use Rattle.sha512_bytes.proofs.Stores.{eight_put}
+-- `sha512_bytes::put_all` meets its contract. The loop's invariant: the first i words are stored. Assumes nothing.
+use Rattle.std.proofs.Common.{arith}
+use Rattle.sha512_bytes.proofs.Stores.{stored_all}
 use Rattle.sha512_bytes.proofs.put_all.Goals as goal
 
 pub returns : goal.returns
 returns c =
-    eight_put c.args.s c.args.dst.now _ _ _ _ _ _ _ _ c.requires
-    c.put.ensures
-    c.put-2.ensures
-    c.put-3.ensures
-    c.put-4.ensures
-    c.put-5.ensures
-    c.put-6.ensures
-    c.put-7.ensures
-    c.put-8.ensures
+    let r = c.loop-i in
+    stored_all c.args.s r.dst r.i (omega arith) r.invariant.0 r.invariant.1
