@@ -2,15 +2,14 @@
 use mathlib.Core.Path.{◌≡◌, refl, ap, sym, ◌∙◌}
 use mathlib.Core.Bool.{Bool, true, false}
 use mathlib.Core.List.{List, [], ◌∷◌, ◌++◌, append_assoc}
-use Prim.Native.Nat.{ℕ, zero, suc, ◌+◌, ◌-◌, ◌*◌, ◌/◌, ◌%◌, ◌^◌, ◌≤◌, ◌<◌}
+use Prim.Native.Nat.{ℕ, zero, suc, min, ◌+◌, ◌-◌, ◌*◌, ◌/◌, ◌%◌, ◌^◌, ◌≤◌, ◌<◌}
 use native.Mathlib.Nat.{pow-le-pow_right, pow-succ', one-le-pow, mod-eq_of_lt}
 use native.Mathlib.Numerals.{add-one}
 use native.Mathlib.Omega.{arith}
 use lib.Dec.{leb}
-use lib.ListN.{length, take, drop, get_or, set, length-append}
-use lib.Seq.{paste, paste-suc, take-length, take-suc, take_all, length-take-le, take_at, drop_at, drop-drop}
+use lib.ListN.{length, take, get_or}
+use lib.Seq.{take-length, take-suc, take_all, length-take-le}
 use borrow.Author.Tests.{leb-true, leb-false, lt-ltb, le-ltb}
-use Rattle.io.specs.Counts.{IsPrefixLen}
 use Rattle.io.specs.Digits.{hex_digit_ascii, last_digits, IsDigitCount}
 use Rattle.state.specs.Choice.{pick}
 use Rattle.rules.specs.Calls.{Report}
@@ -18,37 +17,7 @@ use Rattle.lines.specs.declared.Command.{Command}
 use Rattle.numerals.specs.Text.{space}
 use Rattle.lines.specs.Lines.{line_feed}
 use Rattle.lines.specs.Grammar.{name_of}
-use Rattle.answer_text.specs.Answers.{decimal_in, decimal, state_text, command_text, bad_line, bad_line_text, hex_of, Put}
-
--- a turn of the copy, and its end
-pub put_turn : (out₀ out bytes : List ℕ) (n i : ℕ) → out ≡ paste out₀ n bytes i → i < length bytes → n + length bytes ≤ length out₀
-    → set out (n + i) (get_or bytes i 0) ≡ paste out₀ n bytes (i + 1)
-put_turn out₀ out bytes n i e l room = rw (e, add-one) (paste-suc out₀ n bytes i 0 (omega arith) l)
-
-pub put_end : (out₀ out bytes : List ℕ) (n i : ℕ) → out ≡ paste out₀ n bytes i → i ≤ length bytes → length bytes ≤ i → Put out₀ n bytes out (n + i)
-put_end out₀ out bytes n i e l h =
-    let q : i ≡ length bytes = omega arith in
-    record { count = ap (λ (k : ℕ). n + k) q; all = e ∙ rw (q, take-length bytes) refl }
-
--- one text after another
-pub put_then : (out out₁ out₂ xs ys : List ℕ) (n r : ℕ) → Put out 0 xs out₁ n → Put out₁ n ys out₂ r → Put out 0 (xs ++ ys) out₂ r
-put_then out out₁ out₂ xs ys n r p q =
-    let e : n ≡ length xs = omega (arith, p.count) in
-    let k : 0 + length (xs ++ ys) ≡ n + length ys = omega (arith, length-append xs ys) in
-    let z : 0 + length xs ≡ n = omega arith in
-    let o : out₁ ≡ xs ++ drop n out = p.all ∙ rw z refl in
-    let t : take n out₁ ≡ xs = ap (take n) o ∙ take_at xs (drop n out) n (sym e) in
-    let d : drop (n + length ys) out₁ ≡ drop (n + length ys) out =
-    sym (drop-drop (length ys) n out₁) ∙ ap (drop (length ys)) (ap (drop n) o ∙ drop_at xs (drop n out) n (sym e)) ∙ drop-drop (length ys) n out in
-    record { count = omega (arith, q.count); all = q.all ∙ rw (t, d, k) refl }
-
--- what is read of a text then
-pub put_text : (out xs out' : List ℕ) (r : ℕ) → Put out 0 xs out' r → take r out' ≡ xs
-put_text out xs out' r p =
-    ap (take r) p.all ∙ take_at xs (drop (0 + length xs) out) r (omega (arith, p.count))
-
-pub counts : (r : ℕ) (out : List ℕ) → r ≤ length out → IsPrefixLen r out
-counts r out h = (h, sym (length-take-le r out h))
+use Rattle.answer_text.specs.Answers.{decimal_in, decimal, state_text, command_text, bad_line, bad_line_text, hex_of}
 
 -- ---- decimal
 
@@ -87,27 +56,21 @@ few_by false x k e h f =
 pub few_digits : (x k : ℕ) → x < 2 ^ 64 → IsDigitCount 10 1 x k → k ≤ 20
 few_digits x k h f = few_by (leb k 20) x k refl h f.2
 
-pub put_digits : (out out' ds : List ℕ) (n x k r : ℕ) → IsDigitCount 10 1 x k → k ≡ length (take k ds) → k ≤ 20 → take k ds ≡ last_digits 10 k x
-    → Put out n (take k ds) out' r → Put out n (decimal x) out' r × (r ≤ n + 20)
-put_digits out out' ds n x k r f l s t p = (rw (t ∙ decimal_is k x f) at p, omega (arith, p.count, l))
+-- ---- the lines, part by part
 
--- ---- the lines
-
-module _ (c : Command) (t : Report) (o₀ o₁ o₂ o₃ o₄ o₅ o₆ : List ℕ) (a b d e f r : ℕ)
-    (name : Put o₀ 0 (name_of c) o₁ a) (gap : Put o₁ a (space ∷ []) o₂ b) (number : Put o₂ b (decimal t.number) o₃ d)
-    (state : Put o₃ d (space ∷ state_text t.state ∷ space ∷ []) o₄ e) (count : Put o₄ e (decimal t.count) o₅ f)
-    (end : Put o₅ f (line_feed ∷ []) o₆ r) where
-  pub line_answered : Put o₀ 0 (command_text c t) o₆ r
+module _ (c : Command) (t : Report) (o₀ o₁ o₂ o₃ o₄ o₅ o₆ : List ℕ) (none : o₀ ≡ []) (name : o₁ ≡ o₀ ++ name_of c)
+    (gap : o₂ ≡ o₁ ++ (space ∷ [])) (number : o₃ ≡ o₂ ++ decimal t.number)
+    (state : o₄ ≡ o₃ ++ (space ∷ state_text t.state ∷ space ∷ [])) (count : o₅ ≡ o₄ ++ decimal t.count)
+    (end : o₆ ≡ o₅ ++ (line_feed ∷ [])) where
+  pub line_answered : o₆ ≡ command_text c t
   unfolding command_text
-  line_answered =
-      simp append_assoc at
-      (put_then _ _ _ _ _ _ _ (put_then _ _ _ _ _ _ _ (put_then _ _ _ _ _ _ _ (put_then _ _ _ _ _ _ _
-      (put_then _ _ _ _ _ _ _ name gap) number) state) count) end)
+  line_answered = rw (end, count, state, number, gap, name, none) (simp append_assoc)
 
-pub line_bad : (x : ℕ) (o₀ o₁ o₂ o₃ : List ℕ) (a b r : ℕ) → Put o₀ 0 bad_line o₁ a → Put o₁ a (decimal x) o₂ b → Put o₂ b (line_feed ∷ []) o₃ r
-    → Put o₀ 0 (bad_line_text x) o₃ r
-unfolding bad_line_text
-line_bad x o₀ o₁ o₂ o₃ a b r p q e = simp append_assoc at (put_then _ _ _ _ _ _ _ (put_then _ _ _ _ _ _ _ p q) e)
+module _ (x : ℕ) (o₀ o₁ o₂ o₃ : List ℕ) (none : o₀ ≡ []) (words : o₁ ≡ o₀ ++ bad_line) (number : o₂ ≡ o₁ ++ decimal x)
+    (end : o₃ ≡ o₂ ++ (line_feed ∷ [])) where
+  pub line_bad : o₃ ≡ bad_line_text x
+  unfolding bad_line_text
+  line_bad = rw (end, number, words, none) (simp append_assoc)
 
 -- ---- hexadecimal
 
@@ -116,38 +79,32 @@ unfolding hex_of
 hex_on [] b = refl
 hex_on (x ∷ xs) b = ap (λ t. hex_digit_ascii (x / 16) ∷ hex_digit_ascii (x % 16) ∷ t) (hex_on xs b)
 
-pub hex_length : (xs : List ℕ) → length (hex_of xs) ≡ 2 * length xs
+hex_length : (xs : List ℕ) → length (hex_of xs) ≡ 2 * length xs
 unfolding hex_of
 hex_length [] = refl
 hex_length (x ∷ xs) = omega (arith, hex_length xs)
 
-pub hex_count : (bytes out₀ out : List ℕ) (i n : ℕ) → i ≤ length bytes → Put out₀ 0 (hex_of (take i bytes)) out n → n ≡ 2 * i
-hex_count bytes out₀ out i n h p = omega (arith, p.count, hex_length (take i bytes), length-take-le i bytes h)
+module _ (bytes text : List ℕ) (i : ℕ) (so_far : text ≡ hex_of (take i bytes)) where
+  pub hex_count : i ≤ length bytes → length text ≡ 2 * i
+  hex_count h = rw so_far (omega (arith, hex_length (take i bytes), length-take-le i bytes h))
 
-pub hex_none : (out : List ℕ) → Put out 0 (hex_of []) out 0
-unfolding hex_of
-hex_none out = record { count = refl; all = refl }
+  -- one byte more
+  pub hex_turn : (h l : ℕ) (text' : List ℕ) → i < length bytes → h ≡ hex_digit_ascii (get_or bytes i 0 / 16)
+      → l ≡ hex_digit_ascii (get_or bytes i 0 % 16) → text' ≡ text ++ (h ∷ l ∷ []) → text' ≡ hex_of (take (i + 1) bytes)
+  hex_turn h l text' k p q w =
+      rw (w, so_far, p, q, add-one, take-suc bytes i 0 k) (sym (hex_on (take i bytes) (get_or bytes i 0)))
 
--- one byte more
-pub hex_turn : (bytes out₀ out out' : List ℕ) (i n r h l : ℕ) → i < length bytes → Put out₀ 0 (hex_of (take i bytes)) out n
-    → h ≡ hex_digit_ascii (get_or bytes i 0 / 16) → l ≡ hex_digit_ascii (get_or bytes i 0 % 16) → Put out n (h ∷ l ∷ []) out' r
-    → Put out₀ 0 (hex_of (take (i + 1) bytes)) out' r
-hex_turn bytes out₀ out out' i n r h l k t p q w =
-    rw (add-one, take-suc bytes i 0 k, hex_on (take i bytes) (get_or bytes i 0), ← p, ← q) (put_then _ _ _ _ _ _ _ t w)
+shown_by : (t : Bool) (bytes : List ℕ) (m : ℕ) → leb 32 (length bytes) ≡ t → m ≡ min (length bytes) 32 → take m bytes ≡ take 32 bytes
+shown_by true bytes m e h =
+    let l = leb-true 32 (length bytes) e in
+    let q : m ≡ 32 = omega arith in
+    rw q refl
+shown_by false bytes m e h =
+    let l = leb-false 32 (length bytes) e in
+    let q : m ≡ length bytes = omega arith in
+    rw (q, take-length bytes) (sym (take_all 32 bytes (omega arith)))
 
-pub hex_end : (bytes out₀ out : List ℕ) (i n : ℕ) → i ≤ length bytes → length bytes ≤ i → Put out₀ 0 (hex_of (take i bytes)) out n
-    → Put out₀ 0 (hex_of bytes) out n
-hex_end bytes out₀ out i n l h t =
-    let q : i ≡ length bytes = omega arith in
-    rw (q, take-length bytes) at t
-
--- the first 32
-pub hex_few : (bytes out₀ out : List ℕ) (r : ℕ) → length out ≡ 64 → length bytes ≤ 32 → Put out₀ 0 (hex_of bytes) out r
-    → IsPrefixLen r out × Put out₀ 0 (hex_of (take 32 bytes)) out r
-hex_few bytes out₀ out r o l h =
-    (counts r out (omega (arith, h.count, hex_length bytes)), rw (take_all 32 bytes l) h)
-
-pub hex_first : (bytes out₀ out : List ℕ) (r : ℕ) → length out ≡ 64 → 32 ≤ length bytes → Put out₀ 0 (hex_of (take 32 bytes)) out r
-    → IsPrefixLen r out × Put out₀ 0 (hex_of (take 32 bytes)) out r
-hex_first bytes out₀ out r o l h =
-    (counts r out (omega (arith, h.count, hex_length (take 32 bytes), length-take-le 32 bytes l)), h)
+-- all that is shown
+pub hex_end : (bytes text : List ℕ) (m i : ℕ) → m ≡ min (length bytes) 32 → length (take m bytes) ≤ i → text ≡ hex_of (take i (take m bytes))
+    → text ≡ hex_of (take 32 bytes)
+hex_end bytes text m i h l e = e ∙ ap hex_of (take_all i (take m bytes) l ∙ shown_by _ bytes m refl h)

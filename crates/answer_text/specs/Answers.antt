@@ -1,6 +1,5 @@
 -- The text that the bench program writes: request No. 4. Assumes nothing.
-use Rattle.std.specs.Prelude.{◌≡◌, List, [], ◌∷◌, ◌++◌, ℕ, zero, suc, ◌+◌, ◌/◌, ◌%◌, ltb, length, take, drop}
-use Rattle.std.proofs.Math.Option.{Option, none, some}
+use Rattle.std.specs.Prelude.{Option, None, Some, List, [], ◌∷◌, ◌++◌, ℕ, zero, suc, ◌/◌, ◌%◌, ltb}
 use Rattle.io.specs.Digits.{hex_digit_ascii}
 use Rattle.state.specs.declared.State.{State}
 use Rattle.state.specs.Choice.{pick}
@@ -22,8 +21,8 @@ decimal n = decimal_in (suc n) n
 
 -- a state by its number, and `-` where there is none
 unfoldable pub state_text : Option State → ℕ
-state_text none = 45
-state_text (some s) = hex_digit_ascii (state_number s)
+state_text None = 45
+state_text (Some s) = hex_digit_ascii (state_number s)
 
 -- a command's line: its name, the answer's number, the state or `-`, the operations
 unfoldable pub command_text : Command → Report → List ℕ
@@ -41,10 +40,3 @@ bad_line_text n = bad_line ++ (decimal n ++ (line_feed ∷ []))
 unfoldable pub hex_of : List ℕ → List ℕ
 hex_of [] = []
 hex_of (b ∷ bs) = hex_digit_ascii (b / 16) ∷ hex_digit_ascii (b % 16) ∷ hex_of bs
-
--- ---- how a text is put into a buffer
-
--- these bytes were put at n, up to r, and the buffer is otherwise as it was
-pub record Put (out : List ℕ) (n : ℕ) (bytes out' : List ℕ) (r : ℕ) : Type 0 where
-  pub count : r ≡ n + length bytes
-  pub all : out' ≡ (take n out ++ bytes) ++ drop (n + length bytes) out

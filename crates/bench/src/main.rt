@@ -4,8 +4,7 @@
 use std::io;
 
 fn main(rt: HostRuntime) -> io::Result<()> {
-    match bench_run::run(&rt, &mut rt.stdin(), &mut rt.stdout()) {
-        Ok(()) => Ok(()),
-        Err(failure) => bench_run::tell(&rt, &failure),
-    }
+    bench_run::run(&rt, &mut rt.stdin(), &mut rt.stdout()).or_else(|failure| bench_run::tell(
+        &rt, &failure,
+    ))
 }

@@ -4,6 +4,7 @@ use Rattle.mem_flash.specs.Flash.{Flash}
 use Rattle.numerals.specs.Text.{space}
 use Rattle.lines.specs.Lines.{line_feed}
 use Rattle.answer_text.specs.Answers.{hex_of}
+use Rattle.bench_images.specs.declared.Areas.{Areas}
 use Rattle.bench_images.specs.Images.{used, Fit}
 use Rattle.bench_output.specs.Output.{dfu, state}
 use Rattle.bench_areas.specs.declared.Tail.{Tail}
@@ -19,11 +20,11 @@ dfu_from at f = hex_of (drop at f.dfu) ++ ((line_feed ∷ state ++ (space ∷ []
 unfoldable pub active_from : ℕ → Flash → List ℕ
 active_from at f = hex_of (drop at f.active) ++ ((line_feed ∷ dfu ++ (space ∷ [])) ++ dfu_from 0 f)
 
-unfoldable pub tail_text : Tail → List ℕ → List ℕ → List ℕ → List ℕ
-tail_text (Active l at) a d s = active_from at (used l a d s)
-tail_text (Dfu l at) a d s = dfu_from at (used l a d s)
-tail_text (State l at) a d s = state_from at (used l a d s)
-tail_text Over a d s = []
+unfoldable pub tail_text : Tail → Areas → List ℕ
+tail_text (Active l at) f = active_from at (used l f)
+tail_text (Dfu l at) f = dfu_from at (used l f)
+tail_text (State l at) f = state_from at (used l f)
+tail_text Over f = []
 
 -- there is room for the areas
 abbrev pub Room : Tail → Type 0

@@ -1,24 +1,23 @@
 -- How the areas start, and which call a command is: request No. 4. Assumes nothing.
 use Rattle.std.specs.Prelude.{◌≡◌, List, [], ◌∷◌, ℕ, zero, suc, ◌+◌, ◌/◌, ◌%◌, ◌≤◌, ◌<◌, eqb, take, drop, replicate}
-use Rattle.std.proofs.Math.Option.{none}
+use Rattle.std.specs.Prelude.{None}
 use Rattle.state.specs.declared.Cell.TheVariants.{High}
 use Rattle.state.specs.declared.State.TheVariants as state
 use Rattle.state.specs.Choice.{pick}
 use Rattle.state.specs.Cells.{erased}
 use Rattle.geometry.specs.declared.Geometry.{Geometry}
-use Rattle.geometry.specs.declared.Verdict.{Verdict}
 use Rattle.geometry.specs.Geometry.{page, pages}
-use Rattle.geometry.specs.Refusals.{verdict, boot_refusal}
+use Rattle.geometry.specs.Refusals.{Verdict, verdict, boot_refusal}
 use Rattle.mem_flash.specs.Flash.{Flash}
 use Rattle.mem_flash.specs.Run.{flash}
-use Rattle.rules.specs.declared.Answer.{Answer}
-use Rattle.rules.specs.Calls.{Call, Did}
+use Rattle.rules.specs.Calls.{Answer, Call, Did}
 use Rattle.rules.specs.Boot.{prepare_boot}
 use Rattle.rules.specs.FirmwareState.{mark}
 use Rattle.lines.specs.declared.Lengths.{Lengths}
 use Rattle.lines.specs.declared.Command.{Command}
 use Rattle.lines.specs.declared.Command.TheVariants.{Update, Booted, Boot}
 use Rattle.lines.specs.Lines.{most_length}
+use Rattle.bench_images.specs.declared.Areas.{Areas}
 
 -- ---- how the areas start
 
@@ -51,12 +50,15 @@ call_of g (Boot k) f = prepare_boot g f
 
 -- where a boot is refused under the number v every command is refused so, and no command is judged by itself
 unfoldable pub bench_call : Geometry → ℕ → Command → Flash → Call
-bench_call g v c f = pick (eqb v 0) (call_of g c f) (record { refusal = v; state = none; ops = [] })
+bench_call g v c f = pick (eqb v 0) (call_of g c f) (record { refusal = v; state = None; ops = [] })
 
--- ---- the same of the code, which is lent `most_length` bytes for each area and uses the first of them
+-- ---- the same of the code, whose areas have `most_length` bytes each, of which it uses the first
 
-abbrev pub used : Lengths → List ℕ → List ℕ → List ℕ → Flash
-used l a d s = flash (take l.active a) (take l.dfu d) (take l.state s)
+abbrev pub areas : List ℕ → List ℕ → List ℕ → Areas
+areas a d s = record { active = a; dfu = d; state = s }
+
+abbrev pub used : Lengths → Areas → Flash
+used l f = flash (take l.active f.active) (take l.dfu f.dfu) (take l.state f.state)
 
 -- lengths for which there is room
 pub record Fit (l : Lengths) : Type 0 where
@@ -64,16 +66,16 @@ pub record Fit (l : Lengths) : Type 0 where
   pub dfu : l.dfu ≤ most_length
   pub state : l.state ≤ most_length
 
--- what the first two lines make of all that is lent
-pub record Begun (g : Geometry) (l : Lengths) (a d s : List ℕ) (v : Verdict) : Type 0 where
+-- what the first two lines make of the areas
+pub record Begun (g : Geometry) (l : Lengths) (f : Areas) (v : Verdict) : Type 0 where
   pub judged : verdict v ≡ boot_refusal g l.active l.dfu l.state
-  pub started : verdict v ≡ 0 → (a ≡ filled (page g) 0 most_length) × (d ≡ filled (page g) (pages g l.active) most_length)
-  pub refused : 0 < verdict v → (a ≡ blank most_length) × (d ≡ blank most_length)
-  pub state : s ≡ blank most_length
+  pub started : verdict v ≡ 0 → (f.active ≡ filled (page g) 0 most_length) × (f.dfu ≡ filled (page g) (pages g l.active) most_length)
+  pub refused : 0 < verdict v → (f.active ≡ blank most_length) × (f.dfu ≡ blank most_length)
+  pub state : f.state ≡ blank most_length
 
--- the answer r and the areas after it are those of the call with a budget of k; what is not used stays as it was
-pub record Obeyed (c : Call) (k : ℕ) (l : Lengths) (a d s a' d' s' : List ℕ) (r : Answer) : Type 0 where
-  pub did : Did c k (used l a d s) (used l a' d' s') r
-  pub active : drop l.active a' ≡ drop l.active a
-  pub dfu : drop l.dfu d' ≡ drop l.dfu d
-  pub state : drop l.state s' ≡ drop l.state s
+-- the answer r and the areas f' after it are those of the call with a budget of k; what is not used stays as it was
+pub record Obeyed (c : Call) (k : ℕ) (l : Lengths) (f f' : Areas) (r : Answer) : Type 0 where
+  pub did : Did c k (used l f) (used l f') r
+  pub active : drop l.active f'.active ≡ drop l.active f.active
+  pub dfu : drop l.dfu f'.dfu ≡ drop l.dfu f.dfu
+  pub state : drop l.state f'.state ≡ drop l.state f.state

@@ -7,24 +7,32 @@ ghost use Rattle.mem_flash.specs.Run.{flash};
 ghost use Rattle.rules.specs.Calls.{Did};
 ghost use Rattle.lines.specs.Lines.{most_length};
 ghost use Rattle.lines.specs.Grammar.{number_of};
-ghost use Rattle.bench_images.specs.Images.{filled, blank, call_of, bench_call, used, Fit, Begun, Obeyed};
+ghost use Rattle.bench_images.specs.Images.{filled, blank, call_of, bench_call, areas, used, Fit, Begun, Obeyed};
 
 use boot_loader::BootLoader;
 use firmware_state::BlockingFirmwareState;
-use geometry::{Geometry, Refusal, Verdict};
+use geometry::{Geometry, Refusal};
 use lines::{Command, Lengths};
-use rules::Answer;
+use rules::{Answer, Stop};
 use state::State;
 
 // The most bytes of an area. All of them are lent; the second line says how many are used.
-pub const MOST: usize = 16384;
+pub const MOST: usize = lines::MOST_LENGTH as usize;
+
+// The three areas, as long as they may be.
+#[derive(Drop)]
+pub struct Areas {
+    pub active: [u8; MOST],
+    pub dfu: [u8; MOST],
+    pub state: [u8; MOST],
+}
 
 // What the first two lines said, and whether a boot with them is refused.
 #[derive(Clone, Copy)]
 pub struct Setup {
     pub g: Geometry,
     pub l: Lengths,
-    pub verdict: Verdict,
+    pub verdict: Result<(), Refusal>,
 }
 
 // What a page is filled with: its number from 1, with `before` pages before the area's first, modulo 256.
@@ -39,114 +47,72 @@ fn fill(area: &mut [u8], size: usize, before: usize)
     requires { 0 < size }
     ensures { area.new ≡ filled size before (length area.old) }
 {
-    let mut i = 0;
-    while i < area.len() {
-        area[i] = page_byte(before, i / size);
-        i += 1;
+    for (i, byte) in area.iter_mut().enumerate() {
+        *byte = page_byte(before, i / size);
     }
 }
 
 fn wipe(area: &mut [u8])
     ensures { area.new ≡ blank (length area.old) }
 {
-    let mut i = 0;
-    while i < area.len() {
-        area[i] = State::ERASE_VALUE;
-        i += 1;
+    area.fill(State::ERASE_VALUE);
+}
+
+impl Areas {
+    // DFU's pages go on counting where active's end. Where a boot is refused the images are FF throughout.
+    pub fn set_up(&mut self, g: Geometry, l: Lengths) -> Setup
+        ensures { (result.g ≡ g) × (result.l ≡ l) × Begun g l self.new result.verdict }
+    {
+        wipe(&mut self.state);
+        let verdict = verdicts::boot_verdict(g, l.active, l.dfu, l.state);
+        let Ok(()) = verdict else {
+            wipe(&mut self.active);
+            wipe(&mut self.dfu);
+            return Setup { g, l, verdict };
+        };
+        let size = g.page_size();
+        fill(&mut self.active, size, 0);
+        fill(&mut self.dfu, size, l.active / size);
+        Setup { g, l, verdict }
+    }
+
+    // A command on the areas' first bytes, as many of each as the second line said. Where a boot is refused no call is made.
+    pub fn obey(&mut self, s: Setup, command: Command) -> Answer
+        ensures { Fit s.l → Obeyed
+            (bench_call s.g (verdict s.verdict) command (used s.l self.old))
+            (number_of command) s.l self.old self.new result }
+    {
+        s.verdict?;
+        let Areas { active, dfu, state } = self;
+        on_parts(s.g, s.l, command, active, dfu, state)
     }
 }
 
-fn fill_all(area: &mut [u8; MOST], size: usize, before: usize)
-    requires { 0 < size }
-    ensures { area.new ≡ filled size before most_length }
-{
-    fill(area, size, before);
-}
-
-fn wipe_all(area: &mut [u8; MOST])
-    ensures { area.new ≡ blank most_length }
-{
-    wipe(area);
-}
-
-// DFU's pages go on counting where active's end. Where a boot is refused the images are FF throughout.
-pub fn set_up(
-    g: Geometry,
-    l: Lengths,
-    active: &mut [u8; MOST],
-    dfu: &mut [u8; MOST],
-    state: &mut [u8; MOST],
-) -> Setup
-    ensures { (result.g ≡ g) × (result.l ≡ l)
-        × Begun g l active.new dfu.new state.new result.verdict }
-{
-    wipe_all(state);
-    let verdict = verdicts::boot_verdict(g, l.active, l.dfu, l.state);
-    let Verdict::Admitted = verdict else {
-        wipe_all(active);
-        wipe_all(dfu);
-        return Setup { g, l, verdict };
-    };
-    let size = g.page_size();
-    fill_all(active, size, 0);
-    fill_all(dfu, size, l.active / size);
-    Setup { g, l, verdict }
-}
-
-// A command on the areas' first bytes, as many of each as the second line said. Where a boot is refused no call is made.
-pub fn obey(
-    s: Setup,
-    command: Command,
-    active: &mut [u8; MOST],
-    dfu: &mut [u8; MOST],
-    state: &mut [u8; MOST],
-) -> Answer
-    ensures { Fit s.l → Obeyed
-        (bench_call s.g (verdict s.verdict) command (used s.l active.old dfu.old state.old))
-        (number_of command) s.l active.old dfu.old state.old
-        active.new dfu.new state.new result }
-{
-    let g = s.g;
-    let l = s.l;
-    let verdict = s.verdict;
-    if let Verdict::Refused(why) = verdict {
-        return Answer::Refused(why);
-    }
-    on_parts(g, l, command, active, dfu, state)
-}
-
-// The lengths are at most what is lent, since the line that gave them was read so.
+// Each area is lent by itself, to be cut. The lengths are at most what is lent, since the line that gave them was read so. The test
+// stays: `obey` takes any lengths, and `Fit` is a premise of what it promises.
 fn on_parts(
     g: Geometry,
     l: Lengths,
     command: Command,
-    active: &mut [u8],
-    dfu: &mut [u8],
-    state: &mut [u8],
+    active: &mut [u8; MOST],
+    dfu: &mut [u8; MOST],
+    state: &mut [u8; MOST],
 ) -> Answer
-    ensures { l.active ≤ length active.old → l.dfu ≤ length dfu.old → l.state ≤ length state.old
-        → Obeyed (call_of g command (used l active.old dfu.old state.old)) (number_of command)
-        l active.old dfu.old state.old
-        active.new dfu.new state.new result }
+    ensures { Fit l → Obeyed
+        (call_of g command (used l (areas active.old dfu.old state.old)))
+        (number_of command) l
+        (areas active.old dfu.old state.old)
+        (areas active.new dfu.new state.new) result }
 {
-    let la = l.active;
-    let ld = l.dfu;
-    let ls = l.state;
-    if la > active.len() {
-        return Answer::Refused(Refusal::Limit);
-    }
-    if ld > dfu.len() {
-        return Answer::Refused(Refusal::Limit);
-    }
-    if ls > state.len() {
-        return Answer::Refused(Refusal::Limit);
+    if l.active > MOST || l.dfu > MOST || l.state > MOST {
+        return Err(Stop::Refused(Refusal::Limit));
     }
     call(
         g,
         command,
-        &mut active[..la],
-        &mut dfu[..ld],
-        &mut state[..ls],
+        &mut active[..l.active],
+        &mut dfu[..l.dfu],
+        &mut state[..l.state],
     )
 }
 

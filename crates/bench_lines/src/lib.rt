@@ -1,19 +1,20 @@
 // The bench program's lines, on values: a machine that takes the input in pieces and gives the text that is due, a line's at a time.
 // What it gives is the definition `output` of the crate `bench_output`; how the two are joined is in specs/Machine. Reading and writing
-// are the caller's.
+// are the caller's. `Sound`, `Counted` and `Fit` are premises of the promises and no invariants of the types: docs/ARCHITECTURE names these
+// functions, and they take any machine.
 #![tactic(auto)]
 
 ghost use Rattle.std.specs.Prelude.{◌≡◌, ℕ, ◌+◌, ◌<◌, ◌≤◌, List, [], ◌++◌, length, take, drop, ◌↔◌, IsTrue};
-ghost use Rattle.io.specs.Counts.{IsPrefixLen};
-ghost use Rattle.lines.specs.Lines.{sizes_line, lengths_line, command_line, most_bytes};
+ghost use Rattle.lines.specs.Lines.{most_bytes, sizes_line, lengths_line, command_line};
 ghost use Rattle.bench_images.specs.Images.{Fit, used};
 ghost use Rattle.geometry.specs.Refusals.{verdict};
-ghost use Rattle.bench_output.specs.Output.{first, bad, on_sizes, on_lengths, on_command, on_line};
-ghost use Rattle.bench_lines.specs.Machine.{stage_of, most_lines, Fits, Stepped, mem, Sound, Counted, Goes};
+ghost use Rattle.bench_output.specs.Output.{bad, on_sizes, on_lengths, on_command, on_line, over, step};
+ghost use Rattle.bench_lines.specs.Machine.{stage_of, most_lines, Fits, Passed, Stepped, Sound, Counted, Goes};
 
-use bench_images::{MOST, Setup};
+use answer_text::Text;
+use bench_images::{Areas, MOST, Setup};
 use geometry::Geometry;
-use lines::{CommandLine, LengthsLine, SizesLine, Taken};
+use lines::{MOST_BYTES, Taken};
 
 // Which line comes next.
 #[derive(Clone, Copy)]
@@ -21,285 +22,199 @@ pub enum Phase {
     Sizes,
     Lengths(Geometry),
     Commands(Setup),
-    // Nothing more is to be read or written.
+    // Nothing more is to be read or written: a variant and no None, so that `stage_of` is one match.
     Over,
 }
 
-// The next line's kind, how many lines are done, and how many bytes of the next are held.
-#[derive(Clone, Copy)]
+// What the lines so far have made: the next line's kind, how many lines are done, and the areas.
+#[derive(Drop)]
 pub struct Bench {
     pub phase: Phase,
     pub lines: u64,
+    pub areas: Areas,
+}
+
+// The bench, and the next line's first `held` bytes. An array and its count, and no vector: `lines::take_line` takes just these.
+#[derive(Drop)]
+pub struct Machine {
+    pub bench: Bench,
+    pub line: [u8; MOST_BYTES],
     pub held: usize,
 }
 
-// What a line leaves, and the length of the text that is due for it.
-#[derive(Clone, Copy)]
-pub struct Text {
-    pub bench: Bench,
-    pub n: usize,
-}
-
-// The same, and where in the piece the next line starts.
-#[derive(Clone, Copy)]
+// The text that is due for what was taken of a piece, and where in the piece the next line starts.
+#[derive(Drop)]
 pub struct Turn {
-    pub bench: Bench,
+    pub text: Text,
     pub at: usize,
-    pub n: usize,
 }
 
-// Whether nothing more is to be read or written.
-pub fn is_over(b: Bench) -> bool
-    ensures { IsTrue result ↔ (b.phase ≡ Phase.Over) }
-{
-    let phase = b.phase;
-    if let Phase::Over = phase { true } else { false }
-}
-
-pub fn start() -> Bench
-    ensures { (result.phase ≡ Phase.Sizes) × (result.lines ≡ 0) × (result.held ≡ 0) }
-{
-    Bench {
-        phase: Phase::Sizes,
-        lines: 0,
-        held: 0,
+impl Bench {
+    // One line more. The count could only wrap after more lines than anyone can send.
+    fn pass(&mut self, next: Phase)
+        ensures { Passed self.old next self.new }
+    {
+        self.phase = next;
+        self.lines = self.lines.wrapping_add(1);
     }
-}
 
-// One line more. The count could only wrap after more lines than anyone can send.
-fn after(b: Bench, phase: Phase) -> Bench
-    ensures { (result.phase ≡ phase) × (b.lines + 1 < most_lines → result.lines ≡ b.lines + 1) × (result.held ≡ 0) }
-{
-    Bench {
-        phase,
-        lines: b.lines.wrapping_add(1),
-        held: 0,
+    fn bad_line(&mut self) -> Text
+        ensures { self.old.lines + 1 < most_lines → Stepped (bad (self.old.lines + 1)) self.old self.new result.items }
+    {
+        let text = answer_text::bad_line_text(self.lines.wrapping_add(1));
+        self.pass(Phase::Over);
+        text
     }
-}
 
-fn bad_line(b: Bench, out: &mut [u8; 64]) -> Text
-    ensures prefix_len { IsPrefixLen result.n out.new }
-    ensures stepped { b.lines + 1 < most_lines → (a d s : List ℕ)
-        → Stepped (bad (b.lines + 1)) b a d s result.bench (take result.n out.new) }
-{
-    let n = answer_text::bad_line_text(b.lines.wrapping_add(1), out);
-    let bench = after(b, Phase::Over);
-    Text { bench, n }
-}
-
-// ---- what a line does
-
-fn on_sizes(b: Bench, line: &[u8], out: &mut [u8; 64]) -> Text
-    ensures prefix_len { IsPrefixLen result.n out.new }
-    ensures stepped { b.lines + 1 < most_lines → (a d s : List ℕ)
-        → Stepped (on_sizes (b.lines + 1) (sizes_line line.now)) b a d s result.bench (take result.n out.new) }
-{
-    let read = lines::read_sizes(line);
-    match read {
-        SizesLine::Sizes(g) => {
-            let bench = after(b, Phase::Lengths(g));
-            Text { bench, n: 0 }
-        }
-        SizesLine::Other => bad_line(b, out),
+    fn on_sizes(&mut self, line: &[u8]) -> Text
+        ensures { self.old.lines + 1 < most_lines
+            → Stepped (on_sizes (self.old.lines + 1) (sizes_line line.now)) self.old self.new result.items }
+    {
+        let Some(g) = lines::read_sizes(line) else {
+            return self.bad_line();
+        };
+        self.pass(Phase::Lengths(g));
+        Text::new()
     }
-}
 
-fn on_lengths(
-    b: Bench,
-    g: Geometry,
-    line: &[u8],
-    active: &mut [u8; MOST],
-    dfu: &mut [u8; MOST],
-    state: &mut [u8; MOST],
-    out: &mut [u8; 64],
-) -> Text
-    ensures prefix_len { IsPrefixLen result.n out.new }
-    ensures stepped { b.lines + 1 < most_lines
-        → Stepped (on_lengths (b.lines + 1) g (lengths_line line.now)) b active.new dfu.new state.new
-        result.bench (take result.n out.new) }
-{
-    let read = lines::read_lengths(line);
-    match read {
-        LengthsLine::Lengths(l) => {
-            let setup = bench_images::set_up(g, l, active, dfu, state);
-            let bench = after(b, Phase::Commands(setup));
-            Text { bench, n: 0 }
-        }
-        LengthsLine::Other => bad_line(b, out),
+    fn on_lengths(&mut self, g: Geometry, line: &[u8]) -> Text
+        ensures { self.old.lines + 1 < most_lines
+            → Stepped (on_lengths (self.old.lines + 1) g (lengths_line line.now)) self.old self.new result.items }
+    {
+        let Some(l) = lines::read_lengths(line) else {
+            return self.bad_line();
+        };
+        let setup = self.areas.set_up(g, l);
+        self.pass(Phase::Commands(setup));
+        Text::new()
     }
-}
 
-fn on_command(
-    b: Bench,
-    s: Setup,
-    line: &[u8],
-    active: &mut [u8; MOST],
-    dfu: &mut [u8; MOST],
-    state: &mut [u8; MOST],
-    out: &mut [u8; 64],
-) -> Text
-    ensures prefix_len { IsPrefixLen result.n out.new }
-    ensures stepped { b.lines + 1 < most_lines → Fit s.l
-        → Stepped (on_command (b.lines + 1) s.g (verdict s.verdict)
-        (used s.l active.old dfu.old state.old) (command_line line.now))
-        b active.new dfu.new state.new result.bench (take result.n out.new) }
-{
-    let read = lines::read_command(line);
-    let CommandLine::Command(command) = read else {
-        return bad_line(b, out);
-    };
-    let answer = bench_images::obey(s, command, active, dfu, state);
-    let n = answer_text::command_text(command, answer, out);
-    let bench = after(b, Phase::Commands(s));
-    Text { bench, n }
-}
+    fn on_command(&mut self, s: Setup, line: &[u8]) -> Text
+        ensures { self.old.lines + 1 < most_lines → Fit s.l
+            → Stepped (on_command (self.old.lines + 1) s.g (verdict s.verdict) (used s.l self.old.areas) (command_line line.now))
+            self.old self.new result.items }
+    {
+        let Some(command) = lines::read_command(line) else {
+            return self.bad_line();
+        };
+        let answer = self.areas.obey(s, command);
+        self.pass(Phase::Commands(s));
+        answer_text::command_text(command, answer)
+    }
 
-fn on_line(
-    b: Bench,
-    line: &[u8],
-    active: &mut [u8; MOST],
-    dfu: &mut [u8; MOST],
-    state: &mut [u8; MOST],
-    out: &mut [u8; 64],
-) -> Text
-    ensures prefix_len { IsPrefixLen result.n out.new }
-    ensures stepped { b.lines + 1 < most_lines → Fits b.phase → length line.now ≤ most_bytes
-        → Stepped (on_line (stage_of b.phase active.old dfu.old state.old) (b.lines + 1) line.now)
-        b active.new dfu.new state.new result.bench (take result.n out.new) }
-{
-    let phase = b.phase;
-    match phase {
-        Phase::Sizes => on_sizes(b, line, out),
-        Phase::Lengths(g) => on_lengths(b, g, line, active, dfu, state, out),
-        Phase::Commands(s) => on_command(b, s, line, active, dfu, state, out),
-        Phase::Over => {
-            let bench = after(b, Phase::Over);
-            Text { bench, n: 0 }
+    // A line that is whole.
+    fn on_line(&mut self, line: &[u8]) -> Text
+        ensures { self.old.lines + 1 < most_lines → Fits self.old.phase → length line.now ≤ most_bytes
+            → Stepped (on_line (stage_of self.old.phase self.old.areas) (self.old.lines + 1) line.now) self.old self.new result.items }
+    {
+        match self.phase {
+            Phase::Sizes => self.on_sizes(line),
+            Phase::Lengths(g) => self.on_lengths(g, line),
+            Phase::Commands(s) => self.on_command(s, line),
+            Phase::Over => self.after_all(),
         }
     }
-}
 
-// A line that is whole: its first n bytes are held.
-fn on_held(
-    b: Bench,
-    held: &[u8],
-    n: usize,
-    active: &mut [u8; MOST],
-    dfu: &mut [u8; MOST],
-    state: &mut [u8; MOST],
-    out: &mut [u8; 64],
-) -> Text
-    ensures prefix_len { IsPrefixLen result.n out.new }
-    ensures stepped { b.lines + 1 < most_lines → Fits b.phase → n ≤ length held.now → n ≤ most_bytes
-        → Stepped (on_line (stage_of b.phase active.old dfu.old state.old) (b.lines + 1)
-        (take n held.now)) b active.new dfu.new state.new result.bench (take result.n out.new) }
-{
-    if n > held.len() {
-        return bad_line(b, out);
-    }
-    on_line(b, &held[..n], active, dfu, state, out)
-}
-
-// A line that has more bytes than can be held is bad before its end is seen, whatever it says.
-fn too_long(b: Bench, out: &mut [u8; 64]) -> Text
-    ensures prefix_len { IsPrefixLen result.n out.new }
-    ensures stepped { b.lines + 1 < most_lines → (line a d s : List ℕ) → most_bytes < length line
-        → Stepped (on_line (stage_of b.phase a d s) (b.lines + 1) line) b a d s result.bench (take result.n out.new) }
-{
-    let phase = b.phase;
-    match phase {
-        Phase::Sizes => bad_line(b, out),
-        Phase::Lengths(_) => bad_line(b, out),
-        Phase::Commands(_) => bad_line(b, out),
-        Phase::Over => {
-            let bench = after(b, Phase::Over);
-            Text { bench, n: 0 }
+    // A line that has more bytes than can be held is bad before its end is seen, whatever it says.
+    fn too_long(&mut self) -> Text
+        ensures { self.old.lines + 1 < most_lines → (line : List ℕ) → most_bytes < length line
+            → Stepped (on_line (stage_of self.old.phase self.old.areas) (self.old.lines + 1) line) self.old self.new result.items }
+    {
+        match self.phase {
+            Phase::Over => self.after_all(),
+            _ => self.bad_line(),
         }
+    }
+
+    // A line of which nothing is to be written.
+    fn after_all(&mut self) -> Text
+        ensures { self.old.lines + 1 < most_lines → Stepped (step [] over) self.old self.new result.items }
+    {
+        self.pass(Phase::Over);
+        Text::new()
     }
 }
 
 // ---- the input, piece by piece
 
-fn holding(b: Bench, held: usize) -> Bench
-    ensures { result ≡ record { phase = b.phase; lines = b.lines; held = held } }
-{
-    let phase = b.phase;
-    Bench {
-        phase,
-        lines: b.lines,
-        held,
+impl Machine {
+    pub fn start() -> Self
+        ensures { (result.bench.phase ≡ Phase.Sizes) × (result.bench.lines ≡ 0) × (result.held ≡ 0) }
+    {
+        Machine {
+            bench: Bench {
+                phase: Phase::Sizes,
+                lines: 0,
+                // What they hold until `set_up` is of no account.
+                areas: Areas {
+                    active: [0; MOST],
+                    dfu: [0; MOST],
+                    state: [0; MOST],
+                },
+            },
+            line: [0; MOST_BYTES],
+            held: 0,
+        }
     }
-}
 
-// Takes the input's piece from `at` on, up to the end of a line or of the piece.
-pub fn next(
-    b: Bench,
-    piece: &[u8],
-    at: usize,
-    held: &mut [u8; 80],
-    active: &mut [u8; MOST],
-    dfu: &mut [u8; MOST],
-    state: &mut [u8; MOST],
-    out: &mut [u8; 64],
-) -> Turn
-    ensures prefix_len { IsPrefixLen result.n out.new }
-    ensures at_lt_at { at < length piece.now → at < result.at }
-    ensures by_index { (rest : List ℕ)
-        → Goes (mem b held.old active.old dfu.old state.old)
-        (drop at piece.now ++ rest) (take result.n out.new)
-        (mem result.bench held.new active.new dfu.new state.new)
-        (drop result.at piece.now ++ rest) }
-{
-    let taken = lines::take_line(held, b.held, piece, at);
-    match taken {
-        Taken::Line(n, next) => {
-            let t = on_held(b, held, n, active, dfu, state, out);
-            let bench = t.bench;
-            Turn {
-                bench,
-                at: next,
-                n: t.n,
-            }
-        }
-        Taken::Part(n) => {
-            let bench = holding(b, n);
-            Turn {
-                bench,
-                at: piece.len(),
-                n: 0,
-            }
-        }
-        Taken::Long => {
-            let t = too_long(b, out);
-            let bench = t.bench;
-            Turn {
-                bench,
-                at: piece.len(),
-                n: t.n,
-            }
-        }
+    // Whether nothing more is to be read or written.
+    pub fn is_over(&self) -> bool
+        ensures { IsTrue result ↔ (self.now.bench.phase ≡ Phase.Over) }
+    {
+        matches!(self.bench.phase, Phase::Over)
     }
-}
 
-// After the last piece: what is held is a line, the input's end being its end.
-pub fn last(
-    b: Bench,
-    held: &[u8; 80],
-    active: &mut [u8; MOST],
-    dfu: &mut [u8; MOST],
-    state: &mut [u8; MOST],
-    out: &mut [u8; 64],
-) -> Text
-    ensures prefix_len { IsPrefixLen result.n out.new }
-    ensures goes { Goes (mem b held.now active.old dfu.old state.old) []
-        (take result.n out.new)
-        (mem result.bench held.now active.new dfu.new state.new) [] }
-    ensures held_value { Sound (mem b held.now active.old dfu.old state.old)
-        → Counted (mem b held.now active.old dfu.old state.old) [] → result.bench.held ≡ 0 }
-{
-    let n = b.held;
-    if n == 0 {
-        return Text { bench: b, n: 0 };
+    // A line that is whole: its first n bytes are held.
+    fn pass(&mut self, n: usize) -> Text
+        ensures line { self.new.line ≡ self.old.line }
+        ensures held { self.new.held ≡ 0 }
+        ensures stepped { self.old.bench.lines + 1 < most_lines → Fits self.old.bench.phase → n ≤ most_bytes
+            → Stepped (on_line (stage_of self.old.bench.phase self.old.bench.areas) (self.old.bench.lines + 1) (take n self.old.line)) self.old.bench self.new.bench result.items }
+    {
+        self.held = 0;
+        if n > self.line.len() {
+            return self.bench.bad_line();
+        }
+        self.bench.on_line(&self.line[..n])
     }
-    on_held(b, held, n, active, dfu, state, out)
+
+    // Takes the input's piece from `at` on, up to the end of a line or of the piece.
+    pub fn next(&mut self, piece: &[u8], at: usize) -> Turn
+        ensures at_lt_at { at < length piece.now → at < result.at }
+        ensures by_index { (rest : List ℕ)
+            → Goes self.old (drop at piece.now ++ rest) result.text.items self.new (drop result.at piece.now ++ rest) }
+    {
+        match lines::take_line(&mut self.line, self.held, piece, at) {
+            Taken::Line(n, next) => {
+                let text = self.pass(n);
+                Turn { text, at: next }
+            }
+            Taken::Part(n) => {
+                self.held = n;
+                Turn {
+                    text: Text::new(),
+                    at: piece.len(),
+                }
+            }
+            Taken::Long => {
+                self.held = 0;
+                Turn {
+                    text: self.bench.too_long(),
+                    at: piece.len(),
+                }
+            }
+        }
+    }
+
+    // After the last piece: what is held is a line, the input's end being its end.
+    pub fn last(&mut self) -> Text
+        ensures goes { Goes self.old [] result.items self.new [] }
+        ensures held { Sound self.old → Counted self.old [] → self.new.held ≡ 0 }
+    {
+        let n = self.held;
+        if n == 0 {
+            return Text::new();
+        }
+        self.pass(n)
+    }
 }

@@ -1,20 +1,16 @@
 -- The bench program's whole output from its whole input: request No. 4. What a line says is defined in lines/specs/Lines, what a
 -- command does in bench_images/specs/Images, and the texts in answer_text/specs/Answers. Assumes nothing.
-use Rattle.std.specs.Prelude.{List, [], ◌∷◌, ◌++◌, ℕ, ◌+◌, leb, length}
+use Rattle.std.specs.Prelude.{List, [], ◌∷◌, ◌++◌, ℕ, ◌+◌, leb, length, Option, None, Some}
 use Rattle.state.specs.Choice.{pick}
 use Rattle.geometry.specs.declared.Geometry.{Geometry}
 use Rattle.geometry.specs.Refusals.{boot_refusal}
 use Rattle.mem_flash.specs.Flash.{Flash}
 use Rattle.rules.specs.Calls.{Call, report, left}
 use Rattle.numerals.specs.Text.{space}
-use Rattle.lines.specs.declared.SizesLine.{SizesLine}
-use Rattle.lines.specs.declared.SizesLine.TheVariants as SizesLineIs
-use Rattle.lines.specs.declared.LengthsLine.{LengthsLine}
-use Rattle.lines.specs.declared.LengthsLine.TheVariants as LengthsLineIs
+use Rattle.lines.specs.declared.Lengths.{Lengths}
 use Rattle.lines.specs.declared.Command.{Command}
-use Rattle.lines.specs.declared.CommandLine.{CommandLine}
-use Rattle.lines.specs.declared.CommandLine.TheVariants as CommandLineIs
-use Rattle.lines.specs.Lines.{line_feed, lines, most_bytes, sizes_line, lengths_line, command_line}
+use Rattle.lines.specs.Lines.{line_feed, lines, most_bytes}
+use Rattle.lines.specs.Lines.{sizes_line, lengths_line, command_line}
 use Rattle.lines.specs.Grammar.{number_of}
 use Rattle.answer_text.specs.Answers.{command_text, bad_line_text, hex_of}
 use Rattle.bench_images.specs.Images.{start_of, bench_call}
@@ -41,22 +37,21 @@ bad n = step (bad_line_text n) over
 
 -- ---- line n by what it says
 
-unfoldable pub on_sizes : ℕ → SizesLine → Step
-on_sizes n (SizesLineIs.Sizes g) = step [] (second g)
-on_sizes n SizesLineIs.Other = bad n
+unfoldable pub on_sizes : ℕ → Option Geometry → Step
+on_sizes n (Some g) = step [] (second g)
+on_sizes n None = bad n
 
-unfoldable pub on_lengths : ℕ → Geometry → LengthsLine → Step
-on_lengths n g (LengthsLineIs.Lengths l) =
-    step [] (command g (boot_refusal g l.active l.dfu l.state) (start_of g l))
-on_lengths n g LengthsLineIs.Other = bad n
+unfoldable pub on_lengths : ℕ → Geometry → Option Lengths → Step
+on_lengths n g (Some l) = step [] (command g (boot_refusal g l.active l.dfu l.state) (start_of g l))
+on_lengths n g None = bad n
 
 -- a call with its budget: its answer is written, and the areas are as it leaves them
 unfoldable pub called : Geometry → ℕ → Flash → Command → Call → Step
 called g v f c call = step (command_text c (report call (number_of c))) (command g v (left call (number_of c) f))
 
-unfoldable pub on_command : ℕ → Geometry → ℕ → Flash → CommandLine → Step
-on_command n g v f (CommandLineIs.Command c) = called g v f c (bench_call g v c f)
-on_command n g v f CommandLineIs.Other = bad n
+unfoldable pub on_command : ℕ → Geometry → ℕ → Flash → Option Command → Step
+on_command n g v f (Some c) = called g v f c (bench_call g v c f)
+on_command n g v f None = bad n
 
 -- a line that is too long is bad, whatever it says
 unfoldable pub within : ℕ → List ℕ → Step → Step

@@ -1,11 +1,14 @@
 -- Laws of what is written: the texts of one step after another, and what a read leaves. Assumes nothing.
-use Rattle.std.proofs.Common.{◌≡◌, ℕ, ◌+◌, ◌-◌, ◌^◌, ◌<◌, ◌≤◌, List, [], ◌++◌, length, take, None, Some, IfSome, Result, Ok, Err, OnOk, IfOk, inl, inr, refl, sym, ap, ◌∙◌, append-nil, arith, length-append}
+use Rattle.std.proofs.Common.{◌≡◌, ℕ, ◌+◌, ◌^◌, ◌<◌, ◌≤◌, List, [], ◌++◌, length, take, None, Some, IfSome, Result, Ok, Err, OnOk, IfOk, inl, inr, refl, sym, ap, ◌∙◌, append-nil, arith, length-append}
 use Rattle.std.specs.declared.option.Option.{Option}
+use Rattle.std.specs.Result.{MatchResult}
+use Rattle.std.specs.Prelude.{is_ok, true}
 use Rattle.std.specs.Io.KnownBytes.{Appends, Consumes, IsAtEnd}
 use Rattle.std.proofs.KnownBytes.{Appends-nil, Appends-trans}
 use Rattle.bench_output.specs.Output.{output}
 use Rattle.bench_lines.specs.declared.Phase.TheVariants as phases
-use Rattle.bench_lines.specs.Machine.{Mem, unread, to_come, Sound, Counted, Goes}
+use Rattle.bench_lines.specs.declared.Machine.{Machine}
+use Rattle.bench_lines.specs.Machine.{unread, Sound, Counted, Goes}
 use Rattle.bench_areas.specs.declared.Tail.{Tail}
 use Rattle.bench_areas.specs.Tail.{Room, tail_text}
 use Rattle.numerals.specs.Text.{first as first_of}
@@ -15,10 +18,10 @@ use Rattle.bench_run.proofs.Whole.{then, still, nothing, starts_sound, starts_le
 
 -- ---- the writer
 
-pub wrote_none : (a : Option (List ℕ)) (m : Mem) (i : List ℕ) → Sound m → Counted m i → Wrote a a m i m i
+pub wrote_none : (a : Option (List ℕ)) (m : Machine) (i : List ℕ) → Sound m → Counted m i → Wrote a a m i m i
 wrote_none a m i s c = record { text = []; grew = Appends-nil a; gone = still m i i refl s c }
 
-pub wrote_then : (a b c : Option (List ℕ)) (m m' m'' : Mem) (i i' i'' y : List ℕ) → Wrote a b m i m' i' → Appends b c y → Goes m' i' y m'' i''
+pub wrote_then : (a b c : Option (List ℕ)) (m m' m'' : Machine) (i i' i'' y : List ℕ) → Wrote a b m i m' i' → Appends b c y → Goes m' i' y m'' i''
     → Wrote a c m i m'' i''
 wrote_then a b c m m' m'' i i' i'' y w p g =
     record {
@@ -28,7 +31,7 @@ wrote_then a b c m m' m'' i i' i'' y w p g =
     }
 
 -- once it is over, what is left of the input is passed by
-pub wrote_over : (a b : Option (List ℕ)) (m m' : Mem) (i j k : List ℕ) → Wrote a b m i m' (j ++ k) → m'.bench.phase ≡ phases.Over → Wrote a b m i m' k
+pub wrote_over : (a b : Option (List ℕ)) (m m' : Machine) (i j k : List ℕ) → Wrote a b m i m' (j ++ k) → m'.bench.phase ≡ phases.Over → Wrote a b m i m' k
 unfolding unread
 wrote_over a b m m' i j k w e =
     record {
@@ -37,7 +40,7 @@ wrote_over a b m m' i j k w e =
       gone = record {
         sound = w.gone.sound;
         counted =
-            omega (arith, w.gone.counted, length-append (take m'.bench.held m'.held) (j ++ k), length-append (take m'.bench.held m'.held) k, length-append j k);
+            omega (arith, w.gone.counted, length-append (take m'.held m'.line) (j ++ k), length-append (take m'.held m'.line) k, length-append j k);
         says = w.gone.says ∙ ap (λ (t : List ℕ). w.text ++ t) (nothing m' (j ++ k) e ∙ sym (nothing m' k e));
       };
     }
@@ -63,46 +66,49 @@ pub if_ok : {A E : Type 0} {P Q : A → Type 0} (r : Result A E) → IfOk r P �
 if_ok (Ok x) p f = f x p
 if_ok (Err e) p f = tt
 
--- after the last piece: the line that is held, the end, and the areas
-pub finished : (a b c d : Option (List ℕ)) (m m' : Mem) (x y : List ℕ) (t : Tail) → Last m x m' → Closed m' y t → Appends a b x → Appends b c y
-    → (Room t → Appends c d (tail_text t m'.active m'.dfu m'.state)) → Sound m → Counted m [] → Appends a d (to_come m [])
-finished a b c d m m' x y t last close p q r s k =
-    let g = last.0 s k in
-    let h = close g.sound g.counted (last.1 s k) in
-    rw (g.says ∙ ap (λ (z : List ℕ). x ++ z) h.1) (Appends-trans a b d x _ p (Appends-trans b c d y _ q (r h.0)))
+-- an error was changed, and the answer was not
+pub was_ok : {A E D : Type 0} (r : Result A E) (m : Result A D) (x : A) (Q : E → Type 0) → MatchResult r (λ y. m ≡ Ok y) Q → is_ok m ≡ is_ok r
+    → m ≡ Ok x → r ≡ Ok x
+was_ok (Ok y) m x q c v e = cc
+was_ok (Err y) m x q c v e = let z : is_ok m ≡ true = rw e refl in absurd cc
 
--- a turn that found the input's end
-turned_end : (left a b : Option (List ℕ)) (m m' : Mem) (xs rest : List ℕ) → left ≡ Some rest → xs ≡ [] → rest ≡ [] → m'.held ≡ m.held
-    → m'.bench.phase ≡ phases.Over → m'.bench.lines ≡ m.bench.lines → m'.bench.held ≡ 0
-    → (Sound m → Counted m [] → Appends a b (to_come m [])) → Sound m → Counted m xs → Turned left a b (length xs) m xs m'
+-- after the last piece: the line that is held, the end, and the areas; then it is over
+pub finished : (a b c d : Option (List ℕ)) (m m' m'' : Machine) (x y : List ℕ) (t : Tail) → Last m x m' → Closed m' y t → Appends a b x → Appends b c y
+    → (Room t → Appends c d (tail_text t m'.bench.areas)) → m''.bench.phase ≡ phases.Over → m''.bench.lines ≡ m'.bench.lines → m''.line ≡ m'.line
+    → m''.held ≡ m'.held → Writes a d m [] m'' []
 unfolding unread first_of
-turned_end left a b m m' xs rest e q none held over lines still h s k =
-    let k₀ : Counted m [] = rw q at k in
+finished a b c d m m' m'' x y t last close p q r over lines line held s k =
+    let g = last.0 s k in
+    let still : m''.held ≡ 0 = held ∙ last.1 s k in
+    let h = close g.sound g.counted (last.1 s k) in
+    let z = tail_text t m'.bench.areas in
     record {
-      rest = rest;
-      is_left = e;
-      wrote = record {
-        text = to_come m [];
-        grew = h s k₀;
-        gone = record {
-          sound = record { full = ap length held ∙ s.full; room = omega (arith, still); plain = rw still refl; fits = rw over tt };
-          counted = rw (lines, still, none) (omega (arith, k₀));
-          says = ap (to_come m) q ∙ sym (append-nil (to_come m [])) ∙ ap (λ (t : List ℕ). to_come m [] ++ t) (sym (nothing m' rest over));
-        };
+      text = x ++ (y ++ z);
+      grew = Appends-trans a b d x _ p (Appends-trans b c d y _ q (r h.0));
+      gone = record {
+        sound = record { full = ap length line ∙ g.sound.full; room = omega (arith, still); plain = rw still refl; fits = rw over tt };
+        counted = rw (lines, still) (omega (arith, g.counted));
+        says =
+            g.says ∙ ap (λ (w : List ℕ). x ++ w) h.1
+            ∙ sym (ap (λ (w : List ℕ). (x ++ (y ++ z)) ++ w) (nothing m'' [] over) ∙ append-nil (x ++ (y ++ z)));
       };
-      nearer = inl over;
     }
 
-pub turned_over : (left left' a b : Option (List ℕ)) (m m' : Mem) (xs bs : List ℕ) → left ≡ Some xs → Consumes left left' bs → bs ≡ []
-    → IsAtEnd left' → m'.held ≡ m.held → m'.bench.phase ≡ phases.Over → m'.bench.lines ≡ m.bench.lines → m'.bench.held ≡ 0
-    → (Sound m → Counted m [] → Appends a b (to_come m [])) → Sound m → Counted m xs → Turned left' a b (length xs) m xs m'
-turned_over left left' a b m m' xs bs e c z at_end held over lines still h s k =
+-- a turn that found the input's end
+turned_end : (left a b : Option (List ℕ)) (m m' : Machine) (xs rest : List ℕ) → left ≡ Some rest → xs ≡ [] → rest ≡ []
+    → m'.bench.phase ≡ phases.Over → Writes a b m [] m' [] → Sound m → Counted m xs → Turned left a b (length xs) m xs m'
+turned_end left a b m m' xs rest is all empty over h s k =
+    record { rest = rest; is_left = is; wrote = rw (all, empty) (h s (rw all at k)); nearer = inl over }
+
+pub turned_over : (left left' a b : Option (List ℕ)) (m m' : Machine) (xs bs : List ℕ) → left ≡ Some xs → Consumes left left' bs → bs ≡ []
+    → IsAtEnd left' → m'.bench.phase ≡ phases.Over → Writes a b m [] m' [] → Sound m → Counted m xs → Turned left' a b (length xs) m xs m'
+turned_over left left' a b m m' xs bs e c z at_end over h s k =
     let (rest, is, q) = read_rest left left' xs bs e c in
-    let none = read_end left' rest is at_end in
-    turned_end left' a b m m' xs rest is (q ∙ ap (λ (t : List ℕ). t ++ rest) z ∙ none) none held over lines still h s k
+    let empty = read_end left' rest is at_end in
+    turned_end left' a b m m' xs rest is (q ∙ ap (λ (t : List ℕ). t ++ rest) z ∙ empty) empty over h s k
 
 -- a turn that read something
-turned_rest : (left a b : Option (List ℕ)) (m m' : Mem) (xs bs rest : List ℕ) → left ≡ Some rest → xs ≡ bs ++ rest → 0 < length bs
+turned_rest : (left a b : Option (List ℕ)) (m m' : Machine) (xs bs rest : List ℕ) → left ≡ Some rest → xs ≡ bs ++ rest → 0 < length bs
     → Writes a b m (bs ++ rest) m' rest → Sound m → Counted m xs → Turned left a b (length xs) m xs m'
 turned_rest left a b m m' xs bs rest e q l h s k =
     record {
@@ -112,7 +118,7 @@ turned_rest left a b m m' xs bs rest e q l h s k =
       nearer = inr (omega (arith, ap length q, length-append bs rest, l));
     }
 
-pub turned_on : (left left' a b : Option (List ℕ)) (m m' : Mem) (xs bs : List ℕ) → left ≡ Some xs → Consumes left left' bs → 0 < length bs
+pub turned_on : (left left' a b : Option (List ℕ)) (m m' : Machine) (xs bs : List ℕ) → left ≡ Some xs → Consumes left left' bs → 0 < length bs
     → ((rest : List ℕ) → Writes a b m (bs ++ rest) m' rest) → Sound m → Counted m xs → Turned left' a b (length xs) m xs m'
 turned_on left left' a b m m' xs bs e c l h s k =
     let (rest, is, q) = read_rest left left' xs bs e c in
@@ -120,7 +126,7 @@ turned_on left left' a b m m' xs bs e c l h s k =
 
 -- ---- the whole run
 
-pub running_none : (left a : Option (List ℕ)) (m : Mem) (xs : List ℕ) → Starts m → left ≡ Some xs → length xs + 1 < 2 ^ 64
+pub running_none : (left a : Option (List ℕ)) (m : Machine) (xs : List ℕ) → Starts m → left ≡ Some xs → length xs + 1 < 2 ^ 64
     → Turned left a a 18446744073709551615 m xs m
 running_none left a m xs start e few =
     record {
@@ -130,9 +136,9 @@ running_none left a m xs start e few =
       nearer = inr (omega (arith, few));
     }
 
-pub running_on : (left left' a b c : Option (List ℕ)) (n : ℕ) (m m' m'' : Mem) (xs : List ℕ) → 0 < n → (m'.bench.phase ≡ phases.Over → ⊥)
-    → (r : Turned left a b n m xs m') → Turned left' b c (length r.rest) m' r.rest m'' → Turned left' a c (n - 1) m xs m''
-running_on left left' a b c n m m' m'' xs l on r t =
+pub running_on : (left left' a b c : Option (List ℕ)) (n n' : ℕ) (m m' m'' : Machine) (xs : List ℕ) → n' + 1 ≡ n → (m'.bench.phase ≡ phases.Over → ⊥)
+    → (r : Turned left a b n m xs m') → Turned left' b c (length r.rest) m' r.rest m'' → Turned left' a c n' m xs m''
+running_on left left' a b c n n' m m' m'' xs l on r t =
     record {
       rest = t.rest;
       is_left = t.is_left;
@@ -143,14 +149,14 @@ running_on left left' a b c n m m' m'' xs l on r t =
       ];
     }
 
-pub ran : (left a b : Option (List ℕ)) (n : ℕ) (m m' : Mem) (xs : List ℕ) → Starts m → Turned left a b n m xs m' → m'.bench.phase ≡ phases.Over
+pub ran : (left a b : Option (List ℕ)) (n : ℕ) (m m' : Machine) (xs : List ℕ) → Starts m → Turned left a b n m xs m' → m'.bench.phase ≡ phases.Over
     → Appends a b (output xs)
 ran left a b n m m' xs start r over =
     let w = r.wrote in
     rw (sym (starts_all m start xs) ∙ w.gone.says ∙ ap (λ (t : List ℕ). w.text ++ t) (nothing m' r.rest over) ∙ append-nil w.text) w.grew
 
 -- the turns are not used up before it is over
-pub ran_out : (left a b : Option (List ℕ)) (n : ℕ) (m m' : Mem) (xs : List ℕ) → Starts m → Turned left a b n m xs m' → n ≤ 0 → Appends a b (output xs)
+pub ran_out : (left a b : Option (List ℕ)) (n : ℕ) (m m' : Machine) (xs : List ℕ) → Starts m → Turned left a b n m xs m' → n ≤ 0 → Appends a b (output xs)
 ran_out left a b n m m' xs start r z =
     elim r.nearer [ inl over ↦ ran left a b n m m' xs start r over | inr h ↦ absurd (omega (arith, h, z)) ]
 

@@ -12,8 +12,8 @@ use Rattle.geometry.specs.declared.Geometry.{Geometry}
 use Rattle.geometry.specs.Geometry.{page, pages}
 use Rattle.geometry.specs.Refusals.{most_length}
 use Rattle.mem_flash.specs.declared.Budget.{Budget}
-use Rattle.mem_flash.specs.declared.Flow.{Flow}
-use Rattle.mem_flash.specs.declared.Flow.TheVariants.{On, Cut}
+use Rattle.mem_flash.specs.Run.{Flow, cut}
+use Rattle.std.specs.Prelude.{Ok}
 use Rattle.mem_flash.specs.Flash.{Flash}
 use Rattle.mem_flash.specs.Run.{flash, on, ended, run, Ran}
 use Rattle.mem_flash.proofs.Runs.{then_on, then_cut, ran, run_of}
@@ -72,21 +72,21 @@ module _ (s : State) (g : Geometry) (f : Flash) {p : ℕ} {t : Task} (e : p ≡ 
 -- ---- the revert and its end
 
 module _ (g : Geometry) {k : ℕ} {f f₁ : Flash} {r : Flow} (w : Ran k (revert_ops g f) f f₁ r) where
-  pub revert_cut : r ≡ Cut → Ran k (revert_ops g f ++ finish_ops g f) f f₁ Cut
+  pub revert_cut : r ≡ cut → Ran k (revert_ops g f ++ finish_ops g f) f f₁ cut
   revert_cut o = ran _ _ _ _ _ (then_cut k (revert_ops g f) _ _ _ r (run_of _ _ _ _ _ w) o)
 
   -- from what the invalidation answers
-  module _ {l : Budget} (o : r ≡ On l) {S₂ : List ℕ} {q : Flow} (i : Invalidated l.0 g.state f₁.state S₂ q) where
+  module _ {l : Budget} (o : r ≡ Ok l) {S₂ : List ℕ} {q : Flow} (i : Invalidated l.0 g.state f₁.state S₂ q) where
     finish : {f₂ : Flash} {p : Flow}
         → run l.0 (invalidate_op g.state ∷ renew_ops g.state (length f.state) (magic Revert)) f₁ ≡ ended f₂ p
         → Ran k (revert_ops g f ++ finish_ops g f) f f₂ p
     unfolding finish_ops
     finish v = ran _ _ _ _ _ (then_on k (revert_ops g f) _ _ _ r (run_of _ _ _ _ _ w) l o ∙ v)
 
-    pub invalid_cut : q ≡ Cut → Ran k (revert_ops g f ++ finish_ops g f) f (flash f₁.active f₁.dfu S₂) Cut
+    pub invalid_cut : q ≡ cut → Ran k (revert_ops g f ++ finish_ops g f) f (flash f₁.active f₁.dfu S₂) cut
     invalid_cut p = finish (then_cut l.0 (invalidate_op g.state ∷ []) _ _ _ q (i f₁.active f₁.dfu) p)
 
-    pub reverted : {m : Budget} {S₃ : List ℕ} {p : Flow} → q ≡ On m → length S₂ ≡ length f.state → Renewed m.0 g.state 0xC0 S₂ S₃ p
+    pub reverted : {m : Budget} {S₃ : List ℕ} {p : Flow} → q ≡ Ok m → length S₂ ≡ length f.state → Renewed m.0 g.state 0xC0 S₂ S₃ p
         → Ran k (revert_ops g f ++ finish_ops g f) f (flash f₁.active f₁.dfu S₃) p
     unfolding magic
     reverted {m} e z v =

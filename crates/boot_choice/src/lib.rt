@@ -1,5 +1,5 @@
 // What a boot does: the task that its plan gives it. The `Geometry` is by value where the Rust has self. A layer within the boot
-// loader: only `boot_loader` calls it, and its proof meets what these functions ask.
+// loader: only `boot_loader` calls it, and its proof meets what these functions ask. The areas are lent as in `boot_steps`.
 #![tactic(auto)]
 
 ghost use Rattle.std.specs.Prelude.{◌≡◌, ◌++◌, ◌*◌, ◌≤◌, length};
@@ -11,7 +11,7 @@ ghost use Rattle.rules.specs.Steps.{revert_ops};
 ghost use Rattle.rules.specs.Boot.{finish_ops, boot_ops_in};
 
 use geometry::Geometry;
-use mem_flash::{Budget, Flow};
+use mem_flash::{Budget, PowerCut};
 use rules::Task;
 use state::State;
 
@@ -24,7 +24,7 @@ pub fn perform(
     dfu: &mut [u8],
     state: &mut [u8],
     left: Budget,
-) -> Flow
+) -> Result<Budget, PowerCut>
     requires { Admitted g (length active.old) (length dfu.old) (length state.old) }
     ensures { Ran left.0
         (boot_ops_in found g (flash active.old dfu.old state.old))
@@ -33,7 +33,7 @@ pub fn perform(
 {
     let page_count = active.len() / g.page_size();
     match boot_plan::task(found, state, g.state, page_count) {
-        Task::Nothing => Flow::On(left),
+        Task::Nothing => Ok(left),
         Task::Confirm => state_area::renew(state, g.state, State::BOOT_MAGIC, left),
         Task::Swap(next) => boot_steps::swap(g, active, dfu, state, next, left),
         Task::Revert(next) => revert_to_end(g, active, dfu, state, next, left),
@@ -48,18 +48,14 @@ fn revert_to_end(
     state: &mut [u8],
     next: usize,
     left: Budget,
-) -> Flow
+) -> Result<Budget, PowerCut>
     requires { Admitted g (length active.old) (length dfu.old) (length state.old) × (next ≡ progress g.state state.old) × (2 * pages g (length active.old) ≤ next) }
     ensures { Ran left.0
         (revert_ops g (flash active.old dfu.old state.old) ++ finish_ops g (flash active.old dfu.old state.old))
         (flash active.old dfu.old state.old)
         (flash active.new dfu.new state.new) result }
 {
-    let Flow::On(second) = boot_steps::revert(g, active, dfu, state, next, left) else {
-        return Flow::Cut;
-    };
-    let Flow::On(third) = state_area::invalidate(state, g.state, second) else {
-        return Flow::Cut;
-    };
+    let second = boot_steps::revert(g, active, dfu, state, next, left)?;
+    let third = state_area::invalidate(state, g.state, second)?;
     state_area::renew(state, g.state, State::REVERT_MAGIC, third)
 }

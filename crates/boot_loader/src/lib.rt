@@ -7,12 +7,12 @@ ghost use Rattle.mem_flash.specs.Run.{flash};
 ghost use Rattle.rules.specs.Calls.{reported, report, Did};
 ghost use Rattle.rules.specs.Boot.{prepare_boot, get_state};
 
-use geometry::{Geometry, Verdict};
-use mem_flash::{Budget, Flow};
-use rules::Answer;
+use geometry::Geometry;
+use mem_flash::Budget;
+use rules::{Answer, Done};
 
 // The boot loader is its geometry: the Rust's holds the three flashes too, which are lent here.
-#[derive(Clone, Copy)]
+#[derive(Clone, Copy, Debug, PartialEq, Eq)]
 pub struct BootLoader {
     pub geometry: Geometry,
 }
@@ -37,28 +37,21 @@ impl BootLoader {
             (flash active.new dfu.new state.new) result }
     {
         let g = self.geometry;
-        let verdict = verdicts::boot_verdict(g, active.len(), dfu.len(), state.len());
-        if let Verdict::Refused(why) = verdict {
-            return Answer::Refused(why);
-        }
+        verdicts::boot_verdict(g, active.len(), dfu.len(), state.len())?;
         let found = state_area::read(state, g.state);
-        let Flow::On(rest) = boot_choice::perform(found, g, active, dfu, state, Budget(budget))
-        else {
-            return Answer::Cut(budget);
-        };
-        let count = budget - rest.0;
-        Answer::Found(found, count)
+        let ended = boot_choice::perform(found, g, active, dfu, state, Budget(budget));
+        rules::answer(Some(found), budget, ended)
     }
 
     // The state that the state area holds, with the sizes of the state area alone.
     pub fn read_state(self, state: &[u8]) -> Answer
         ensures { reported result ≡ report (get_state self.geometry.state state.now) 0 }
     {
-        let g = self.geometry;
-        let verdict = verdicts::state_verdict(g.state, state.len());
-        if let Verdict::Refused(why) = verdict {
-            return Answer::Refused(why);
-        }
-        Answer::Found(state_area::read(state, g.state), 0)
+        let sizes = self.geometry.state;
+        verdicts::state_verdict(sizes, state.len())?;
+        Ok(Done {
+            state: Some(state_area::read(state, sizes)),
+            count: 0,
+        })
     }
 }

@@ -12,14 +12,14 @@ use rules::Task;
 use state::State;
 
 // Which image a page goes to.
-#[derive(Clone, Copy)]
+#[derive(Clone, Copy, Debug, PartialEq, Eq)]
 pub enum Direction {
     ToActive,
     ToDfu,
 }
 
 // A step: a page of one image goes to a page of the other, and a word is marked.
-#[derive(Clone, Copy)]
+#[derive(Clone, Copy, Debug, PartialEq, Eq)]
 pub struct PageCopy {
     pub direction: Direction,
     pub from: Page,

@@ -10,8 +10,8 @@ use Rattle.geometry.specs.declared.Geometry.{Geometry}
 use Rattle.geometry.specs.declared.StateSizes.{StateSizes}
 use Rattle.geometry.specs.Geometry.{cell, page}
 use Rattle.mem_flash.specs.declared.Budget.{Budget}
-use Rattle.mem_flash.specs.declared.Flow.{Flow}
-use Rattle.mem_flash.specs.declared.Flow.TheVariants.{On, Cut}
+use Rattle.mem_flash.specs.Run.{Flow, cut}
+use Rattle.std.specs.Prelude.{Ok}
 use Rattle.mem_flash.specs.Flash.{Area, active, dfu, state, Flash, Op, change}
 use Rattle.mem_flash.specs.Run.{flash, ended, run, Ran, placed, InArea, write_ops}
 use Rattle.mem_flash.specs.Areas.{Image}
@@ -42,10 +42,10 @@ marked_beside state i k ops xs st st' r w f = absurd i
 
 module _ (k : ℕ) (g : Geometry) (unit : ℕ) (c : PageCopy) (src xs xs₁ st : List ℕ) (r : Flow)
     (w : InArea k (fill_ops (cell g.state) unit (page g) g.b (c.to.0 * page g) (c.from.0 * page g) src) xs xs₁ r) where
-  pub step_cut : r ≡ Cut → Stepped k g unit c src xs xs₁ st st Cut
+  pub step_cut : r ≡ cut → Stepped k g unit c src xs xs₁ st st cut
   step_cut o a i f m e = then_cut k _ (mark_op g.state m ∷ []) _ _ r (w a (placed state st f)) o
 
-  pub step_on : (l : Budget) (st' : List ℕ) (q : Flow) → r ≡ On l → Marked l.0 g.state c.mark.0 st st' q
+  pub step_on : (l : Budget) (st' : List ℕ) (q : Flow) → r ≡ Ok l → Marked l.0 g.state c.mark.0 st st' q
       → Stepped k g unit c src xs xs₁ st st' q
   step_on l st' q o v a i f m e =
       then_on k _ (mark_op g.state m ∷ []) _ _ r (w a (placed state st f)) l o

@@ -10,8 +10,8 @@ use Rattle.geometry.specs.Geometry.{page, pages}
 use Rattle.geometry.specs.Refusals.{boot_words}
 use Rattle.geometry.specs.Admitted.{Admitted}
 use Rattle.mem_flash.specs.declared.Budget.{Budget}
-use Rattle.mem_flash.specs.declared.Flow.{Flow}
-use Rattle.mem_flash.specs.declared.Flow.TheVariants.{On, Cut}
+use Rattle.mem_flash.specs.Run.{Flow, cut}
+use Rattle.std.specs.Prelude.{Ok}
 use Rattle.mem_flash.specs.Flash.{Flash, Op, apply_all}
 use Rattle.mem_flash.specs.Run.{run, Ran}
 use Rattle.mem_flash.proofs.Runs.{then_on, then_cut, ran, run_of, on_all}
@@ -54,7 +54,7 @@ going_start g {p} from end k f e w r h =
 
 module _ {g : Geometry} {n end : ℕ} {ops : List Op} {k₀ : Budget} {f₀ : Flash} {next : ℕ} {k : Budget} {f : Flash}
     (w : Going g n end ops k₀ f₀ next k f) where
-  pub going_end : end ≤ next → Ran k₀.0 ops f₀ f (On k)
+  pub going_end : end ≤ next → Ran k₀.0 ops f₀ f (Ok k)
   unfolding run
   going_end h = ran _ _ _ _ _ (w.same ∙ rw (no_step n next end h, copies_none))
 
@@ -73,13 +73,13 @@ module _ {g : Geometry} {n end : ℕ} {ops : List Op} {k₀ : Budget} {f₀ : Fl
         ∙ copies_do g (step_at n next) (slice (suc next) end (all_steps n)) f (omega (arith, marked, w.read))
 
     module _ {f₁ : Flash} {r : Flow} (h : Ran k.0 (copy_ops g (step_at n next) f) f f₁ r) where
-      pub going_cut : r ≡ Cut → Ran k₀.0 ops f₀ f₁ Cut
+      pub going_cut : r ≡ cut → Ran k₀.0 ops f₀ f₁ cut
       going_cut o =
           ran _ _ _ _ _
           (w.same ∙ rw runs (then_cut k.0 (copy_ops g (step_at n next) f) _ f f₁ r (run_of _ _ _ _ _ h) o))
 
       -- behind it the next one is where the search finds it
-      module _ {l : Budget} (o : r ≡ On l) {m : ℕ}
+      module _ {l : Budget} (o : r ≡ Ok l) {m : ℕ}
           (found : m ≡ first_open g.state f₁.state (most_marks g.state f₁.state - (next + 1)) (next + 1)) where
         left : f₁ ≡ apply_all (copy_ops g (step_at n next) f) f
         left = on_all k.0 (copy_ops g (step_at n next) f) f f₁ r l (run_of _ _ _ _ _ h) o

@@ -3,7 +3,7 @@ use Rattle.std.specs.Prelude.{◌≡◌, List, [], ◌∷◌, ◌++◌, ℕ, ◌
 use Rattle.geometry.specs.declared.Geometry.{Geometry}
 use Rattle.geometry.specs.declared.StateSizes.{StateSizes}
 use Rattle.geometry.specs.Geometry.{cell, page}
-use Rattle.mem_flash.specs.declared.Flow.{Flow}
+use Rattle.mem_flash.specs.Run.{Flow}
 use Rattle.mem_flash.specs.Flash.{Area, state, Flash}
 use Rattle.mem_flash.specs.Run.{ended, run, placed}
 use Rattle.mem_flash.specs.Areas.{Image}

@@ -4,8 +4,7 @@ use mathlib.Core.List.{List}
 use Prim.Native.Nat.{ℕ}
 use Rattle.geometry.specs.declared.Sizes.{Sizes}
 use Rattle.mem_flash.specs.Flash.{Flash}
-use Rattle.rules.specs.declared.Answer.{Answer}
-use Rattle.rules.specs.Calls.{reported}
+use Rattle.rules.specs.Calls.{Answer, reported}
 use Rattle.firmware_hash.specs.Hash.{Hashed}
 use Rattle.packed.specs.Packed.{packed}
 use Rattle.packed.proofs.Packs.{packs}

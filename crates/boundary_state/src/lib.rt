@@ -1,5 +1,5 @@
-// The firmware state's calls over plain numbers: the sizes in a row, and the answer packed into one number; and a state by its number.
-// The C boundary hands them out.
+// The firmware state's calls with the answer packed into one number; and a state by its number. The C boundary hands them out, with the
+// sizes as numbers in a row.
 #![tactic(auto)]
 
 ghost use Rattle.std.specs.Prelude.{◌≡◌, []};
@@ -10,37 +10,37 @@ ghost use Rattle.rules.specs.Calls.{report};
 ghost use Rattle.rules.specs.Boot.{get_state};
 ghost use Rattle.rules.specs.FirmwareState.{mark};
 ghost use Rattle.packed.specs.Packed.{packed};
-ghost use Rattle.packed.specs.Told.{state_sizes, Told};
+ghost use Rattle.packed.specs.Told.{Told};
 
 use firmware_state::BlockingFirmwareState;
 use geometry::StateSizes;
 use state::State;
 
-pub fn get_state(state: &[u8], es: u32, ws: u32, ev: u32) -> u64
-    ensures { result ≡ packed (report (get_state (state_sizes es ws ev) state.now) 0) }
+pub fn get_state(state: &[u8], sizes: StateSizes) -> u64
+    ensures { result ≡ packed (report (get_state sizes state.now) 0) }
 {
-    packed::pack(BlockingFirmwareState::new(StateSizes { es, ws, ev }).get_state(state))
+    packed::pack(BlockingFirmwareState::new(sizes).get_state(state))
 }
 
 // The next boot swaps the images.
-pub fn mark_updated(state: &mut [u8], es: u32, ws: u32, ev: u32, budget: u32) -> u64
-    ensures { Told (mark State.Swap (state_sizes es ws ev) state.old) budget (flash [] [] state.old) (flash [] [] state.new) result }
+pub fn mark_updated(state: &mut [u8], sizes: StateSizes, budget: u32) -> u64
+    ensures { Told (mark State.Swap sizes state.old) budget (flash [] [] state.old) (flash [] [] state.new) result }
 {
-    packed::pack(BlockingFirmwareState::new(StateSizes { es, ws, ev }).mark_updated(state, budget))
+    packed::pack(BlockingFirmwareState::new(sizes).mark_updated(state, budget))
 }
 
 // The next boot starts the USB update.
-pub fn mark_dfu(state: &mut [u8], es: u32, ws: u32, ev: u32, budget: u32) -> u64
-    ensures { Told (mark State.DfuDetach (state_sizes es ws ev) state.old) budget (flash [] [] state.old) (flash [] [] state.new) result }
+pub fn mark_dfu(state: &mut [u8], sizes: StateSizes, budget: u32) -> u64
+    ensures { Told (mark State.DfuDetach sizes state.old) budget (flash [] [] state.old) (flash [] [] state.new) result }
 {
-    packed::pack(BlockingFirmwareState::new(StateSizes { es, ws, ev }).mark_dfu(state, budget))
+    packed::pack(BlockingFirmwareState::new(sizes).mark_dfu(state, budget))
 }
 
 // The new firmware is confirmed: the next boot does not undo the swap.
-pub fn mark_booted(state: &mut [u8], es: u32, ws: u32, ev: u32, budget: u32) -> u64
-    ensures { Told (mark State.Boot (state_sizes es ws ev) state.old) budget (flash [] [] state.old) (flash [] [] state.new) result }
+pub fn mark_booted(state: &mut [u8], sizes: StateSizes, budget: u32) -> u64
+    ensures { Told (mark State.Boot sizes state.old) budget (flash [] [] state.old) (flash [] [] state.new) result }
 {
-    packed::pack(BlockingFirmwareState::new(StateSizes { es, ws, ev }).mark_booted(state, budget))
+    packed::pack(BlockingFirmwareState::new(sizes).mark_booted(state, budget))
 }
 
 // The state of a word, by its number.

@@ -4,8 +4,7 @@ use mathlib.Core.List.{List, []}
 use Prim.Native.Nat.{ℕ}
 use Rattle.geometry.specs.declared.Sizes.{Sizes}
 use Rattle.mem_flash.specs.Run.{flash}
-use Rattle.rules.specs.declared.Answer.{Answer}
-use Rattle.rules.specs.Calls.{reported}
+use Rattle.rules.specs.Calls.{Answer, reported}
 use Rattle.rules.specs.FirmwareUpdater.{memory}
 use Rattle.firmware_updater.specs.declared.BlockingFirmwareUpdater.{BlockingFirmwareUpdater}
 use Rattle.firmware_updater.specs.Updated.{last_of, WroteFirmware}

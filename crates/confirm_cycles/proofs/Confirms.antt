@@ -7,9 +7,8 @@ use lib.ListN.{take}
 use Rattle.geometry.specs.declared.Geometry.{Geometry}
 use Rattle.geometry.specs.declared.StateSizes.{StateSizes}
 use Rattle.mem_flash.specs.Flash.{Flash}
-use Rattle.rules.specs.declared.Answer.{Answer}
 use Rattle.rules.specs.StateArea.{read_state}
-use Rattle.rules.specs.Calls.{Report, Call, left, Did}
+use Rattle.rules.specs.Calls.{Answer, Report, Call, left, Did}
 use Rattle.power.specs.Confirm.{MarkBooted, Confirms}
 use Rattle.power.proofs.Confirmed.{confirmed}
 use Rattle.power_cycles.specs.declared.Booted.{Booted}

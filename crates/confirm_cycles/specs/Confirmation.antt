@@ -1,15 +1,14 @@
--- A mark_booted and the boots after it, and request No. 5 of 02 as a contract: `confirm_and_boot` and `updater_confirm_and_boot`, which call
--- mark_booted and then boot_until_whole, ensure `Confirmation` of every input. The state areas are those of power/specs/Confirm.
--- Assumes nothing.
+-- A mark_booted and the boots after it, and request No. 5 of 02 as a contract: `mark_and_boot`, which calls mark_booted and then
+-- boot_until_whole, ensures `Confirmation` of every input, and so do `confirm_and_boot` and `updater_confirm_and_boot`, which call it. The
+-- state areas are those of power/specs/Confirm. Assumes nothing.
 use Rattle.std.specs.Prelude.{◌≡◌, List, ℕ, ◌+◌, ◌-◌, ◌≤◌, take}
-use Rattle.std.proofs.Math.Option.{some}
+use Rattle.std.specs.Prelude.{Some}
 use Rattle.state.specs.declared.State.TheVariants.{Boot, Swap, Revert}
 use Rattle.geometry.specs.declared.Geometry.{Geometry}
 use Rattle.geometry.specs.declared.StateSizes.{StateSizes}
 use Rattle.mem_flash.specs.Flash.{Flash, Supply, count}
-use Rattle.rules.specs.declared.Answer.{Answer}
 use Rattle.rules.specs.StateArea.{read_state}
-use Rattle.rules.specs.Calls.{Call, reported, report, left}
+use Rattle.rules.specs.Calls.{Answer, Call, reported, report, left}
 use Rattle.rules.specs.Power.{state_units}
 use Rattle.power.specs.Confirm.{Swapped, confirmed_part, confirmed_whole, units_erased}
 use Rattle.power_cycles.specs.declared.Booted.{Booted}
@@ -38,9 +37,9 @@ pub record Confirmation (g : Geometry) (z : StateSizes) (c : Call) (k : Supply) 
   pub never : CutShort g z k f q → read_state g.state f'.state ≡ Revert → ⊥
   -- the boot that is not cut erases the state area and writes the Boot magic, where no unit was erased before it
   pub finishes : CutShort g z k f q → Uncut b.answer → erased_before k ks b ≡ 0
-      → (reported b.answer ≡ record { number = 0; state = some Swap; count = 1 + state_units g f }) × (f' ≡ confirmed_whole g f)
+      → (reported b.answer ≡ record { number = 0; state = Some Swap; count = 1 + state_units g f }) × (f' ≡ confirmed_whole g f)
   -- else it reads Boot, and does nothing
   pub rests : CutShort g z k f q → Uncut b.answer → 1 ≤ erased_before k ks b
-      → (reported b.answer ≡ record { number = 0; state = some Boot; count = 0 }) × (f' ≡ confirmed_part g (erased_before k ks b) f)
+      → (reported b.answer ≡ record { number = 0; state = Some Boot; count = 0 }) × (f' ≡ confirmed_part g (erased_before k ks b) f)
   -- either way the state area then reads Boot, in which no later boot does anything
   pub settles : CutShort g z k f q → Uncut b.answer → read_state g.state f'.state ≡ Boot

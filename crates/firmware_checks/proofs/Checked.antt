@@ -8,8 +8,7 @@ use Rattle.crc32.specs.Crc.{crc}
 use Rattle.geometry.specs.declared.Sizes.{Sizes}
 use Rattle.geometry.proofs.Rows.{checked_none}
 use Rattle.mem_flash.specs.Flash.{Flash}
-use Rattle.rules.specs.declared.Answer.{Answer}
-use Rattle.rules.specs.Calls.{Report, reported, Did}
+use Rattle.rules.specs.Calls.{Answer, Report, reported, Did}
 use Rattle.rules.specs.FirmwareUpdater.{wrong_sum, updater_call, updater_mark, updater_mark_updated, check_and_mark_updated}
 use Rattle.rules.proofs.Endings.{Ending, refused, done, cut, ending, is_cut, left_refused, checked_rows, same_call}
 use Rattle.firmware_checks.specs.Checked.{Agree, Checked}

@@ -3,8 +3,7 @@ use Rattle.std.specs.Prelude.{◌≡◌, ◌⊎◌, ◌≢◌, ℕ, length, take
 use Rattle.crc32.specs.Crc.{crc}
 use Rattle.geometry.specs.declared.Sizes.{Sizes}
 use Rattle.mem_flash.specs.Flash.{Flash}
-use Rattle.rules.specs.declared.Answer.{Answer}
-use Rattle.rules.specs.Calls.{reported, Did}
+use Rattle.rules.specs.Calls.{Answer, reported, Did}
 use Rattle.rules.specs.FirmwareUpdater.{updater_mark_updated, check_and_mark_updated}
 
 -- two flashes that agree on the state area and on the first n bytes of DFU; the other bytes may be any

@@ -1,5 +1,5 @@
 -- What hash answers, and what its output holds then: by the verdict of rows 1 to 6. Assumes nothing.
-use mathlib.Core.Path.{◌≡◌, refl, ap}
+use mathlib.Core.Path.{◌≡◌, refl, ap, sym, ◌∙◌}
 use mathlib.Core.Bool.{true, false}
 use mathlib.Core.List.{List, []}
 use Prim.Native.Nat.{ℕ, ◌^◌, ◌≤◌, ◌<◌}
@@ -8,40 +8,39 @@ use lib.Dec.{eqb}
 use lib.ListN.{length, take}
 use lib.Seq.{length-take-le}
 use borrow.Author.Tests.{eq-eqb, ne_eqb}
+use Rattle.std.specs.Prelude.{Ok, Err, None, IsErrAnd}
 use Rattle.state.specs.Choice.{pick}
 use Rattle.geometry.specs.declared.Sizes.{Sizes}
 use Rattle.geometry.specs.declared.Refusal.{Refusal}
-use Rattle.geometry.specs.declared.Verdict.{Verdict}
-use Rattle.geometry.specs.declared.Verdict.TheVariants as verdicts
-use Rattle.geometry.specs.Refusals.{number, verdict, updater_refusal, most_length}
+use Rattle.geometry.specs.Refusals.{Verdict, number, verdict, updater_refusal, most_length}
 use Rattle.geometry.proofs.Rows.{updater_admits}
 use Rattle.geometry.proofs.Tests.{number_some}
 use Rattle.mem_flash.specs.Run.{flash}
-use Rattle.rules.specs.declared.Answer.TheVariants as answers
+use Rattle.rules.specs.declared.Stop.TheVariants.{Refused}
+use Rattle.rules.specs.Calls.{Answer}
 use Rattle.rules.specs.FirmwareUpdater.{updater_call}
-use Rattle.rules.proofs.Did.{verdict_admitted, did_refused, did_idle}
+use Rattle.rules.proofs.Did.{verdict_admitted, did_stopped, did_nothing}
 use Rattle.sha512.specs.Sha512.{sha512}
 use Rattle.firmware_hash.specs.Hash.{bad_hash, hash_call, hash_out, Hashed}
 use Rattle.firmware_hash.proofs.Asked.{asked_in}
 
+-- a refusal's number is not 0
+pub refusal_some : (n : ℕ) {v : Verdict} {w : Refusal} → verdict v ≡ n → v ≡ Err w → eqb n 0 ≡ false
+unfolding verdict
+refusal_some n {v} {w} e o =
+    let i : number w ≡ n = sym (ap verdict o) ∙ e in
+    ne_eqb n 0 (λ q. omega (arith, number_some w, i, q))
+
 module _ (z : Sizes) (len chunk : ℕ) (out d s : List ℕ) {v : Verdict}
     (e : verdict v ≡ updater_refusal z (length d) (length s) false (bad_hash (length d) len chunk (length out))) where
-  -- a refusal's number is not 0
-  refused : {w : Refusal} → v ≡ verdicts.Refused w → eqb (verdict v) 0 ≡ false
-  unfolding verdict
-  refused {w} o =
-      let i = number_some w in
-      let n : verdict v ≡ number w = ap verdict o in
-      ne_eqb (verdict v) 0 (λ q. omega (arith, i, n, q))
-
-  pub hash_refused : {w : Refusal} → v ≡ verdicts.Refused w → Hashed z len chunk out out (flash [] d s) (answers.Refused w)
+  pub hash_refused : {w : Refusal} → v ≡ Err w → (r : Answer) → IsErrAnd r (λ x. x ≡ Refused w) → Hashed z len chunk out out (flash [] d s) r
   unfolding hash_call updater_call hash_out pick
-  hash_refused o =
+  hash_refused {w} o r i =
       let f = flash [] d s in
-      let y = refused o in
-      record { answer = (did_refused (hash_call z len chunk (length out) f) 0 f v _ e o).answer; digest = rw (← e, y) }
+      let c = hash_call z len chunk (length out) f in
+      record { answer = (did_stopped c 0 f v e o r i).answer; digest = rw (refusal_some c.refusal e o) }
 
-  module _ (o : v ≡ verdicts.Admitted) where
+  module _ (o : v ≡ Ok tt) where
     admits : updater_refusal z (length d) (length s) false (bad_hash (length d) len chunk (length out)) ≡ 0
     admits = verdict_admitted v _ e o
 
@@ -57,8 +56,8 @@ module _ (z : Sizes) (len chunk : ℕ) (out d s : List ℕ) {v : Verdict}
         let m = (updater_admits z (length d) (length s) false _ admits).0.dfu_most in
         omega (arith, l, m, asked.0)
 
-    pub hash_done : {xs : List ℕ} → xs ≡ sha512 (take len d) → Hashed z len chunk out xs (flash [] d s) (answers.Done 0)
+    pub hash_done : {xs : List ℕ} → xs ≡ sha512 (take len d) → Hashed z len chunk out xs (flash [] d s) (Ok (record { state = None; count = 0 }))
     unfolding hash_call updater_call hash_out pick
     hash_done x =
         let f = flash [] d s in
-        record { answer = (did_idle (hash_call z len chunk (length out) f) 0 f admits refl refl).answer; digest = rw (eq-eqb _ _ admits, x) }
+        record { answer = (did_nothing (hash_call z len chunk (length out) f) 0 f admits None refl refl).answer; digest = rw (eq-eqb _ _ admits, x) }

@@ -2,7 +2,7 @@
 -- depend on any byte, so that it answers alike as 01 has it of the other calls; its output is the exception. Assumes nothing.
 use mathlib.Core.Path.{◌≡◌, refl, sym, ap, ap₂, ◌∙◌}
 use mathlib.Core.Bool.{Bool, false}
-use mathlib.Core.Option.{none}
+use Rattle.std.specs.Prelude.{None}
 use mathlib.Core.List.{List, []}
 use Prim.Native.Nat.{ℕ}
 use lib.Dec.{eqb}
@@ -11,8 +11,7 @@ use borrow.Author.Tests.{ne_eqb}
 use Rattle.state.specs.Choice.{pick}
 use Rattle.geometry.specs.declared.Sizes.{Sizes}
 use Rattle.mem_flash.specs.Flash.{Flash}
-use Rattle.rules.specs.declared.Answer.{Answer}
-use Rattle.rules.specs.Calls.{Call, report}
+use Rattle.rules.specs.Calls.{Answer, Call, report}
 use Rattle.rules.specs.FirmwareUpdater.{updater_call}
 use Rattle.rules.proofs.Unique.{answer_unique}
 use Rattle.sha512.specs.Sha512.{sha512}
@@ -38,7 +37,7 @@ pub chunk_aside : {z : Sizes} {len c d : ℕ} {out out₁ out₂ : List ℕ} {f 
     → Hashed z len c out out₁ f x → Hashed z len d out out₂ f y → (x ≡ y) × (out₁ ≡ out₂)
 unfolding hash_call
 chunk_aside {z} {len} {c} {d} {out} {f = f} i j p q =
-    let e = ap (λ (b : Bool). updater_call z f false b none []) (same_row (length f.dfu) len c d (length out) i j) in
+    let e = ap (λ (b : Bool). updater_call z f false b None []) (same_row (length f.dfu) len c d (length out) i j) in
     (same_answer p q e, same_output p q e refl)
 
 -- two flashes with areas as long as each other

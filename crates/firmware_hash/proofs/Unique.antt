@@ -5,7 +5,7 @@ use Prim.Native.Nat.{ℕ}
 use Rattle.state.specs.OneResult.{OneResult}
 use Rattle.geometry.specs.declared.Sizes.{Sizes}
 use Rattle.mem_flash.specs.Flash.{Flash}
-use Rattle.rules.specs.declared.Answer.{Answer}
+use Rattle.rules.specs.Calls.{Answer}
 use Rattle.rules.proofs.Unique.{answer_unique}
 use Rattle.firmware_hash.specs.Hash.{Hashed}
 use Rattle.firmware_hash.proofs.hash.Kinds as hash_kinds

@@ -1,33 +1,28 @@
--- Laws of a mark: the setting of a magic, and what a call that marks leaves at each way out. Assumes nothing.
+-- Laws of a mark: the setting of a magic, and the operations of a call that marks. Assumes nothing.
 use mathlib.Core.Path.{◌≡◌, ◌∙◌}
 use mathlib.Core.Bool.{true, false}
-use mathlib.Core.Option.{none}
 use mathlib.Core.List.{List, [], ◌∷◌}
-use Prim.Native.Nat.{ℕ, ◌-◌}
+use Prim.Native.Nat.{ℕ}
 use lib.ListN.{length}
 use Rattle.state.specs.Choice.{pick}
 use Rattle.state.specs.Magic.{throughout}
 use Rattle.geometry.specs.declared.StateSizes.{StateSizes}
-use Rattle.geometry.specs.declared.Verdict.{Verdict}
-use Rattle.geometry.specs.declared.Verdict.TheVariants as verdicts
-use Rattle.geometry.specs.Refusals.{verdict}
+use Rattle.std.specs.Prelude.{Ok}
 use Rattle.mem_flash.specs.declared.Budget.{Budget}
-use Rattle.mem_flash.specs.declared.Flow.{Flow}
-use Rattle.mem_flash.specs.declared.Flow.TheVariants.{On, Cut}
+use Rattle.mem_flash.specs.Run.{Flow, cut}
+use Rattle.std.specs.Prelude.{Ok}
 use Rattle.mem_flash.specs.Flash.{Op}
 use Rattle.mem_flash.specs.Run.{flash, run, Ran}
 use Rattle.mem_flash.proofs.Runs.{then_on, then_cut, ran}
-use Rattle.rules.specs.declared.Answer.TheVariants as answers
 use Rattle.rules.specs.StateArea.{word, valid, invalidate_op}
 use Rattle.rules.specs.FirmwareState.{set_magic_ops}
-use Rattle.rules.specs.Calls.{Call, Did}
-use Rattle.rules.proofs.Did.{verdict_admitted, did_cut, did_done}
+use Rattle.rules.specs.Calls.{Call}
 use Rattle.state_area.specs.Area.{InState, Invalidated, Renewed}
 
 -- ---- a magic
 
 module _ (z : StateSizes) (m : ℕ) (st : List ℕ) where
-  pub magic_there : (l : Budget) → throughout m (word z 0 st) ≡ true → InState l.0 (set_magic_ops z m st) st st (On l)
+  pub magic_there : (l : Budget) → throughout m (word z 0 st) ≡ true → InState l.0 (set_magic_ops z m st) st st (Ok l)
   unfolding set_magic_ops pick run
   magic_there l e a d = rw e
 
@@ -37,23 +32,16 @@ module _ (z : StateSizes) (m : ℕ) (st : List ℕ) where
     magic_renew k st₁ r v w a d = rw (n, v) (w a d)
 
     module _ (k : ℕ) (v : valid z st ≡ true) (st₁ : List ℕ) (r : Flow) (i : Invalidated k z st st₁ r) where
-      pub magic_cut : r ≡ Cut → InState k (set_magic_ops z m st) st st₁ Cut
+      pub magic_cut : r ≡ cut → InState k (set_magic_ops z m st) st st₁ cut
       unfolding set_magic_ops pick
       magic_cut o a d = rw (n, v) (then_cut k (invalidate_op z ∷ []) _ _ _ r (i a d) o)
 
-      pub magic_on : (l : Budget) (st₂ : List ℕ) (q : Flow) → r ≡ On l → length st₁ ≡ length st → Renewed l.0 z m st₁ st₂ q
+      pub magic_on : (l : Budget) (st₂ : List ℕ) (q : Flow) → r ≡ Ok l → length st₁ ≡ length st → Renewed l.0 z m st₁ st₂ q
           → InState k (set_magic_ops z m st) st st₂ q
       unfolding set_magic_ops pick
       magic_on l st₂ q o h w a d = rw (n, v) (then_on k (invalidate_op z ∷ []) _ _ _ r (i a d) l o ∙ (rw h at (w a d)))
 
--- what a call that marks leaves, from what the setting of the magic did
-module _ (c : Call) (k : ℕ) (st st₁ a d : List ℕ) (ops : List Op) (r : Flow) (v : Verdict) (e : verdict v ≡ c.refusal) (o : v ≡ verdicts.Admitted)
-    (s : c.state ≡ none) (x : c.ops ≡ ops) (w : InState k ops st st₁ r) where
-  ran_ops : Ran k c.ops (flash a d st) (flash a d st₁) r
-  ran_ops = rw x (ran _ _ _ _ _ (w a d))
-
-  pub mark_cut : r ≡ Cut → Did c k (flash a d st) (flash a d st₁) (answers.Cut k)
-  mark_cut p = did_cut c k (flash a d st) (verdict_admitted v _ e o) (flash a d st₁) r ran_ops p
-
-  pub mark_done : (l : Budget) → r ≡ On l → Did c k (flash a d st) (flash a d st₁) (answers.Done (k - l.0))
-  mark_done l p = did_done c k (flash a d st) (verdict_admitted v _ e o) (flash a d st₁) r ran_ops l p s
+-- the operations of a call that marks, from what the setting of the magic did
+pub ran_ops : (c : Call) {k : ℕ} {st st₁ : List ℕ} (a d : List ℕ) {ops : List Op} {r : Flow} → c.ops ≡ ops → InState k ops st st₁ r
+    → Ran k c.ops (flash a d st) (flash a d st₁) r
+ran_ops c a d x w = rw x (ran _ _ _ _ _ (w a d))

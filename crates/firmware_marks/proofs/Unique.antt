@@ -1,7 +1,7 @@
 -- Any two results that the contract of `mark` allows for one input are equal: whichever call has this verdict, no state and these
 -- operations. Assumes nothing.
 use mathlib.Core.Path.{refl, ap}
-use mathlib.Core.Option.{none}
+use Rattle.std.specs.Prelude.{None}
 use mathlib.Core.List.{[]}
 use Rattle.state.specs.OneResult.{OneResult}
 use Rattle.state.specs.Magic.{magic}
@@ -18,7 +18,7 @@ mark_unique κs a x y v w p q =
     let c : Call =
     record {
       refusal = verdict a.1.1.1.0;
-      state = none;
+      state = None;
       ops = set_magic_ops a.0 (magic a.1.1.0) a.1.0.now;
     } in
     let e = unique c _ _ _ _ x y (p c [] [] refl refl refl) (q c [] [] refl refl refl) in

@@ -3,7 +3,7 @@
 #![tactic(auto)]
 
 ghost use Rattle.std.specs.Prelude.{◌≡◌, List, ℕ};
-ghost use Rattle.std.proofs.Math.Option.{none};
+ghost use Rattle.std.specs.Prelude.{None};
 ghost use Rattle.state.specs.Magic.{magic};
 ghost use Rattle.geometry.specs.Refusals.{verdict};
 ghost use Rattle.mem_flash.specs.Run.{flash};
@@ -11,35 +11,35 @@ ghost use Rattle.rules.specs.Calls.{Call, Did};
 ghost use Rattle.rules.specs.FirmwareState.{set_magic_ops};
 ghost use Rattle.state_area.specs.Area.{InState};
 
-use geometry::{StateSizes, Verdict};
-use mem_flash::{Budget, Flow};
+use geometry::{Refusal, StateSizes};
+use mem_flash::{Budget, PowerCut};
 use rules::Answer;
 use state::State;
 
-pub fn mark(z: StateSizes, state: &mut [u8], s: State, judged: Verdict, budget: u32) -> Answer
-    ensures { (c : Call) (a d : List ℕ) → verdict judged ≡ c.refusal → c.state ≡ none → c.ops ≡ set_magic_ops z (magic s) state.old
+pub fn mark(
+    z: StateSizes,
+    state: &mut [u8],
+    s: State,
+    judged: Result<(), Refusal>,
+    budget: u32,
+) -> Answer
+    ensures { (c : Call) (a d : List ℕ) → verdict judged ≡ c.refusal → c.state ≡ None → c.ops ≡ set_magic_ops z (magic s) state.old
         → Did c budget (flash a d state.old) (flash a d state.new) result }
 {
-    if let Verdict::Refused(why) = judged {
-        return Answer::Refused(why);
-    }
-    let Flow::On(rest) = set_magic(z, state, s.magic(), Budget(budget)) else {
-        return Answer::Cut(budget);
-    };
-    Answer::Done(budget - rest.0)
+    judged?;
+    let ended = set_magic(z, state, s.magic(), Budget(budget));
+    rules::answer(None, budget, ended)
 }
 
 // The magic and an erased area, by way of an invalid progress: a cut on the way leaves no progress that counts.
-fn set_magic(z: StateSizes, state: &mut [u8], magic: u8, left: Budget) -> Flow
+fn set_magic(z: StateSizes, state: &mut [u8], magic: u8, left: Budget) -> Result<Budget, PowerCut>
     ensures { InState left.0 (set_magic_ops z magic state.old) state.old state.new result }
 {
     if state_area::magic_is(state, z, magic) {
-        return Flow::On(left);
+        return Ok(left);
     }
     if state_area::is_valid(state, z) {
-        let Flow::On(rest) = state_area::invalidate(state, z, left) else {
-            return Flow::Cut;
-        };
+        let rest = state_area::invalidate(state, z, left)?;
         return state_area::renew(state, z, magic, rest);
     }
     state_area::renew(state, z, magic, left)

@@ -11,9 +11,8 @@ use lib.Seq.{take_all}
 use Rattle.state.specs.declared.Cell.{Cell}
 use Rattle.state.specs.Choice.{pick}
 use Rattle.mem_flash.specs.Flash.{dfu, erase, write}
-use Rattle.rules.specs.declared.Sector.{Sector}
-use Rattle.rules.specs.declared.Sector.TheVariants.{At}
-use Rattle.rules.specs.FirmwareUpdater.{room, Piece, pieces_from, pieces, remembers, pieces_ops}
+use Rattle.std.specs.Prelude.{Some}
+use Rattle.rules.specs.FirmwareUpdater.{Sector, room, Piece, pieces_from, pieces, remembers, pieces_ops}
 use Rattle.firmware_pieces.specs.Wrote.{piece_ops}
 
 -- a piece has a byte or more
@@ -26,9 +25,9 @@ unfolding pieces_from
 none_from zero ed at = refl
 none_from (suc n) ed at = refl
 
-pub no_pieces : (ed at : ℕ) (xs : List ℕ) → xs ≡ [] → pieces ed at xs ≡ []
+pub no_pieces : (ed at : ℕ) → pieces ed at [] ≡ []
 unfolding pieces
-no_pieces ed at xs e = rw e (none_from 0 ed at)
+no_pieces ed at = none_from 0 ed at
 
 -- how many pieces are allowed makes no difference, once it is the data's length
 enough : (n m ed at : ℕ) (xs : List ℕ) → 0 < ed → length xs ≤ n → length xs ≤ m → pieces_from n ed at xs ≡ pieces_from m ed at xs
@@ -83,7 +82,7 @@ sector_in ed at n p e h =
 
 -- the operations of a first piece and of the rest
 pub pieces_ops_lem : (c : Cell) (ed at : ℕ) (m : Sector) (bytes : List ℕ) (ps : List Piece)
-    → pieces_ops c ed m (record { at = at; bytes = bytes } ∷ ps) ≡ piece_ops c ed m at bytes ++ pieces_ops c ed (At (at / ed)) ps
+    → pieces_ops c ed m (record { at = at; bytes = bytes } ∷ ps) ≡ piece_ops c ed m at bytes ++ pieces_ops c ed (Some (at / ed)) ps
 unfolding pieces_ops piece_ops
 pieces_ops_lem c ed at m bytes ps =
-    sym (append_assoc (pick (remembers m (at / ed)) [] (erase c dfu (at / ed * ed) ed ∷ [])) (write c dfu at bytes ∷ []) (pieces_ops c ed (At (at / ed)) ps))
+    sym (append_assoc (pick (remembers m (at / ed)) [] (erase c dfu (at / ed * ed) ed ∷ [])) (write c dfu at bytes ∷ []) (pieces_ops c ed (Some (at / ed)) ps))

@@ -1,26 +1,26 @@
 -- Laws of runs that remember: two runs one after the other, an erase, a write, and a whole piece. Assumes nothing.
 use mathlib.Core.Path.{◌≡◌, refl, ap, ◌∙◌, sym}
-use mathlib.Core.Bool.{true, false}
+use mathlib.Core.Bool.{Bool, true, false, not}
 use mathlib.Core.List.{List, [], ◌∷◌, ◌++◌}
 use Prim.Native.Nat.{ℕ, zero, suc, ◌+◌, ◌-◌, ◌*◌, ◌/◌, ◌≤◌, ◌<◌}
 use native.Mathlib.Nat.{mul-div_cancel}
 use native.Mathlib.Omega.{arith}
+use lib.Dec.{eqb}
 use lib.ListN.{length, take}
 use lib.Seq.{take_all, take-append-add, take-append-le}
-use borrow.Author.Tests.{eqb-true, leb-false}
+use borrow.Author.Tests.{leb-false}
+use Rattle.std.specs.Option.{option_eq}
+use Rattle.std.specs.Prelude.{Ok, None, Some}
 use Rattle.state.specs.declared.Cell.{Cell}
 use Rattle.state.specs.Choice.{pick}
 use Rattle.mem_flash.specs.declared.Budget.{Budget}
-use Rattle.mem_flash.specs.declared.Flow.{Flow}
-use Rattle.mem_flash.specs.declared.Flow.TheVariants.{On, Cut}
 use Rattle.mem_flash.specs.Flash.{dfu, Op, write, change, erase_ops}
-use Rattle.mem_flash.specs.Run.{flash, on, ended, run, placed, InArea, unit_op, write_ops}
+use Rattle.mem_flash.specs.Run.{Flow, cut, flash, on, ended, run, placed, InArea, unit_op, write_ops}
 use Rattle.mem_flash.proofs.Runs.{then_on, then_cut, ran, erase_one}
-use Rattle.rules.specs.declared.Sector.{Sector}
-use Rattle.rules.specs.declared.Sector.TheVariants.{None, At}
-use Rattle.rules.specs.FirmwareUpdater.{remembers, remembered_op, remembered}
+use Rattle.rules.specs.FirmwareUpdater.{Sector, remembers, remembered_op, remembered}
 use Rattle.rules.proofs.Did.{ran_count, ran_over}
 use Rattle.firmware_pieces.specs.Wrote.{piece_ops, WroteBy}
+use Rattle.firmware_pieces.proofs.Verdicts.{inverse}
 
 remembered_append : (ed : ℕ) (os ps : List Op) (m : Sector) → remembered ed (os ++ ps) m ≡ remembered ed ps (remembered ed os m)
 unfolding remembered
@@ -30,13 +30,13 @@ remembered_append ed (o ∷ os) ps m = remembered_append ed os ps (remembered_op
 -- ---- two runs
 
 module _ {k ed : ℕ} {os : List Op} {m m₁ : Sector} {xs xs₁ : List ℕ} {r : Flow} (w : WroteBy k ed os m m₁ xs xs₁ r) where
-  done_all : (l : Budget) → r ≡ On l → (length os ≤ k) × (l.0 ≡ k - length os)
+  done_all : (l : Budget) → r ≡ Ok l → (length os ≤ k) × (l.0 ≡ k - length os)
   done_all l o = ran_count k os (flash [] xs []) (flash [] xs₁ []) r (ran _ _ _ _ _ (w.flash [] [])) l o
 
-  cut_short : r ≡ Cut → k < length os
+  cut_short : r ≡ cut → k < length os
   cut_short o = leb-false _ _ (ran_over k os (flash [] xs []) (flash [] xs₁ []) r (ran _ _ _ _ _ (w.flash [] [])) o)
 
-  pub wrote_on : {ps : List Op} {l : Budget} {m₂ : Sector} {xs₂ : List ℕ} {q : Flow} → r ≡ On l → WroteBy l.0 ed ps m₁ m₂ xs₁ xs₂ q
+  pub wrote_on : {ps : List Op} {l : Budget} {m₂ : Sector} {xs₂ : List ℕ} {q : Flow} → r ≡ Ok l → WroteBy l.0 ed ps m₁ m₂ xs₁ xs₂ q
       → WroteBy k ed (os ++ ps) m m₂ xs xs₂ q
   wrote_on {ps} {l} o v =
       let n = done_all l o in
@@ -48,7 +48,7 @@ module _ {k ed : ℕ} {os : List Op} {m m₁ : Sector} {xs xs₁ : List ℕ} {r 
         memory = v.memory ∙ rw (t, remembered_append ed os (take l.0 ps) m, b);
       }
 
-  pub wrote_cut : (ps : List Op) → r ≡ Cut → WroteBy k ed (os ++ ps) m m₁ xs xs₁ Cut
+  pub wrote_cut : (ps : List Op) → r ≡ cut → WroteBy k ed (os ++ ps) m m₁ xs xs₁ cut
   wrote_cut ps o =
       let n = cut_short o in
       record {
@@ -86,14 +86,14 @@ module _ (c : Cell) (k ed s : ℕ) (m : Sector) (xs xs' : List ℕ) (r : Flow) (
   erases a b = erase_one c k ed (s * ed) _ xs xs' r p (omega arith) w dfu (flash a xs b)
 
   -- an erase that is done is remembered
-  wrote_erase : (l : Budget) → r ≡ On l → WroteBy k ed unit m (At s) xs xs' r
+  wrote_erase : (l : Budget) → r ≡ Ok l → WroteBy k ed unit m (Some s) xs xs' r
   unfolding remembered remembered_op
   wrote_erase l o =
       let n = ran_count k unit (flash [] xs []) (flash [] xs' []) r (ran _ _ _ _ _ (erases [] [])) l o in
-      record { flash = erases; memory = sym (rw (take_all k unit n.0) (ap At (mul-div_cancel s p))) }
+      record { flash = erases; memory = sym (rw (take_all k unit n.0) (ap Some (mul-div_cancel s p))) }
 
   -- one that is cut is not
-  wrote_erase_cut : r ≡ Cut → WroteBy k ed unit m m xs xs' r
+  wrote_erase_cut : r ≡ cut → WroteBy k ed unit m m xs xs' r
   unfolding remembered
   wrote_erase_cut o =
       let n = ran_over k unit (flash [] xs []) (flash [] xs' []) r (ran _ _ _ _ _ (erases [] [])) o in
@@ -103,10 +103,11 @@ module _ (c : Cell) (k ed s : ℕ) (m : Sector) (xs xs' : List ℕ) (r : Flow) (
 
 -- ---- a piece
 
-pub last_is : (m : Sector) {s : ℕ} → remembers m s ≡ true → m ≡ At s
+-- the code asks whether another sector was erased last
+pub other_sector : (m : Sector) (s : ℕ) {found : Bool} → found ≡ not (option_eq eqb m (Some s)) → remembers m s ≡ not found
 unfolding remembers
-last_is None e = let z : ◌≡◌ {A = ℕ} 0 1 = cc in absurd (omega arith)
-last_is (At t) e = ap At (eqb-true _ _ e)
+other_sector None s e = inverse false e
+other_sector (Some t) s e = inverse (eqb t s) e
 
 module _ {k : ℕ} (c : Cell) (ed at : ℕ) (bytes : List ℕ) {m : Sector} {xs : List ℕ} (xs' : List ℕ) {r : Flow} where
   -- the sector was erased last
@@ -117,11 +118,11 @@ module _ {k : ℕ} (c : Cell) (ed at : ℕ) (bytes : List ℕ) {m : Sector} {xs 
   -- it was not: the erase first
   module _ (e : remembers m (at / ed) ≡ false) (p : 0 < ed)
       (w : InArea k (λ a. erase_ops c ed a (at / ed * ed) (at / ed * ed + ed - at / ed * ed)) xs xs' r) where
-    pub piece_cut : r ≡ Cut → WroteBy k ed (piece_ops c ed m at bytes) m m xs xs' Cut
+    pub piece_cut : r ≡ cut → WroteBy k ed (piece_ops c ed m at bytes) m m xs xs' cut
     unfolding piece_ops pick
     piece_cut o = rw e (wrote_cut (wrote_erase_cut c k ed (at / ed) m xs xs' r p w o) (write c dfu at bytes ∷ []) o)
 
-    pub piece_on : {l : Budget} {xs₂ : List ℕ} {q : Flow} → r ≡ On l → InArea l.0 (write_ops c at bytes) xs' xs₂ q
-        → WroteBy k ed (piece_ops c ed m at bytes) m (At (at / ed)) xs xs₂ q
+    pub piece_on : {l : Budget} {xs₂ : List ℕ} {q : Flow} → r ≡ Ok l → InArea l.0 (write_ops c at bytes) xs' xs₂ q
+        → WroteBy k ed (piece_ops c ed m at bytes) m (Some (at / ed)) xs xs₂ q
     unfolding piece_ops pick
     piece_on {l} o v = rw e (wrote_on (wrote_erase c k ed (at / ed) m xs xs' r p w l o) o (wrote_write l.0 v))

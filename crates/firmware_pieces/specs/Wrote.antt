@@ -2,11 +2,9 @@
 use Rattle.std.specs.Prelude.{◌≡◌, List, [], ◌∷◌, ◌++◌, ℕ, ◌*◌, ◌/◌, take}
 use Rattle.state.specs.declared.Cell.{Cell}
 use Rattle.state.specs.Choice.{pick}
-use Rattle.mem_flash.specs.declared.Flow.{Flow}
 use Rattle.mem_flash.specs.Flash.{dfu, Op, erase, write}
-use Rattle.mem_flash.specs.Run.{flash, ended, run}
-use Rattle.rules.specs.declared.Sector.{Sector}
-use Rattle.rules.specs.FirmwareUpdater.{remembers, remembered}
+use Rattle.mem_flash.specs.Run.{Flow, flash, ended, run}
+use Rattle.rules.specs.FirmwareUpdater.{Sector, remembers, remembered}
 
 -- the operations of one piece: its sector erased unless it is the one last erased, the piece written
 unfoldable pub piece_ops : Cell → ℕ → Sector → ℕ → List ℕ → List Op

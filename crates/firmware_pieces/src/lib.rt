@@ -9,49 +9,40 @@ ghost use Rattle.rules.specs.FirmwareUpdater.{pending, bad_range};
 pub mod pieces;
 pub mod range;
 
-use geometry::{Offset, Refusal, Sizes, StateSizes, Verdict};
+use geometry::{Offset, Refusal, Sizes, StateSizes};
 use state::State;
 
 // No swap is pending, so the running firmware is one to go back to.
 fn verify_booted(z: StateSizes, state: &[u8]) -> bool
     ensures { result ≡ not (pending z state.now) }
 {
-    let found = state_area::read(state, z);
-    match found {
-        State::Swap => false,
-        State::Boot => true,
-        State::Revert => true,
-        State::DfuDetach => true,
-    }
+    state_area::read(state, z) != State::Swap
 }
 
 // Rows 1 to 5 of the table.
-pub fn booted_verdict(sizes: Sizes, ld: usize, state: &[u8]) -> Verdict
+pub fn booted_verdict(sizes: Sizes, ld: usize, state: &[u8]) -> Result<(), Refusal>
     ensures { verdict result ≡ updater_refusal sizes ld (length state.now) (pending sizes.state state.now) false }
 {
-    let judged = verdicts::updater_verdict(sizes, ld, state.len());
-    if let Verdict::Refused(why) = judged {
-        return Verdict::Refused(why);
+    verdicts::updater_verdict(sizes, ld, state.len())?;
+    if !verify_booted(sizes.state, state) {
+        return Err(Refusal::BadState);
     }
-    if verify_booted(sizes.state, state) {
-        return Verdict::Admitted;
-    }
-    Verdict::Refused(Refusal::BadState)
+    Ok(())
 }
 
 // Rows 1 to 6 for n bytes of data at an offset.
-pub fn write_verdict(sizes: Sizes, ld: usize, state: &[u8], offset: Offset, n: usize) -> Verdict
+pub fn write_verdict(
+    sizes: Sizes,
+    ld: usize,
+    state: &[u8],
+    offset: Offset,
+    n: usize,
+) -> Result<(), Refusal>
     ensures { verdict result ≡ updater_refusal sizes ld (length state.now) (pending sizes.state state.now) (bad_range sizes.wd ld offset.0 n) }
 {
-    let judged = verdicts::updater_verdict(sizes, ld, state.len());
-    if let Verdict::Refused(why) = judged {
-        return Verdict::Refused(why);
-    }
-    if !verify_booted(sizes.state, state) {
-        return Verdict::Refused(Refusal::BadState);
-    }
+    booted_verdict(sizes, ld, state)?;
     if range::bad_range(sizes.wd as usize, ld, offset, n) {
-        return Verdict::Refused(Refusal::Range);
+        return Err(Refusal::Range);
     }
-    Verdict::Admitted
+    Ok(())
 }

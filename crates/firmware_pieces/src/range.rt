@@ -5,27 +5,20 @@ ghost use Rattle.rules.specs.FirmwareUpdater.{past_end, bad_range};
 use geometry::Offset;
 
 // Whether n bytes at an offset run past the end of ld bytes. No sum is made, so none wraps.
+#[tactic(auto, using(std::proofs::lemmas::Bool::Decides::nat_tests), unfolding(rules::specs::FirmwareUpdater::past_end))]
 pub fn past_end(ld: usize, offset: Offset, n: usize) -> bool
     ensures { result ≡ past_end ld offset.0 n }
 {
-    if ld < n { true } else { ld - n < offset.0 }
+    ld < n || ld - n < offset.0
 }
 
 // Whether data of n bytes may not be written at an offset. Empty data may, anywhere.
+#[tactic(auto, using(std::proofs::lemmas::Bool::Decides::nat_tests), unfolding(rules::specs::FirmwareUpdater::bad_range, geometry::specs::Refusals::any, geometry::specs::Refusals::uneven, state::specs::Choice::pick))]
 pub(crate) fn bad_range(wd: usize, ld: usize, offset: Offset, n: usize) -> bool
     requires { 0 < wd }
     ensures { result ≡ bad_range wd ld offset.0 n }
 {
-    if n == 0 {
-        return false;
-    }
-    if offset.0 % wd != 0 {
-        return true;
-    }
-    if n % wd != 0 {
-        return true;
-    }
-    past_end(ld, offset, n)
+    n != 0 && (offset.0 % wd != 0 || n % wd != 0 || past_end(ld, offset, n))
 }
 
 // Fills the buffer with the bytes from an offset on.
@@ -34,9 +27,5 @@ pub fn copy_out(buf: &mut [u8], source: &[u8], from: Offset)
     ensures { buf.new ≡ take (length buf.old) (drop from.0 source.now) }
 {
     let at = from.0;
-    let mut i = 0;
-    while i < buf.len() {
-        buf[i] = source[at + i];
-        i += 1;
-    }
+    buf.copy_from_slice(&source[at..at + buf.len()]);
 }

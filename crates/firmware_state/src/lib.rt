@@ -1,5 +1,6 @@
 // The firmware state: the part of firmware_updater/blocking.rs that knows the state area alone. The area is lent to each call,
-// its sizes stand by value, and a budget of operations stands for the power supply.
+// its sizes stand by value, and a budget of operations stands for the power supply. The marks have the Rust's names, here and in the
+// updater; what all of them share is `firmware_marks`.
 #![tactic(auto)]
 
 ghost use Rattle.std.specs.Prelude.{◌≡◌, []};
@@ -9,12 +10,12 @@ ghost use Rattle.rules.specs.Calls.{reported, report, Did};
 ghost use Rattle.rules.specs.Boot.{get_state};
 ghost use Rattle.rules.specs.FirmwareState.{mark};
 
-use geometry::{StateSizes, Verdict};
-use rules::Answer;
+use geometry::StateSizes;
+use rules::{Answer, Done};
 use state::State;
 
 // The state area as the application sees it.
-#[derive(Clone, Copy)]
+#[derive(Clone, Copy, Debug, PartialEq, Eq)]
 pub struct BlockingFirmwareState {
     pub sizes: StateSizes,
 }
@@ -29,11 +30,11 @@ impl BlockingFirmwareState {
     pub fn get_state(self, state: &[u8]) -> Answer
         ensures { reported result ≡ report (get_state self.sizes state.now) 0 }
     {
-        let judged = verdicts::state_verdict(self.sizes, state.len());
-        if let Verdict::Refused(why) = judged {
-            return Answer::Refused(why);
-        }
-        Answer::Found(state_area::read(state, self.sizes), 0)
+        verdicts::state_verdict(self.sizes, state.len())?;
+        Ok(Done {
+            state: Some(state_area::read(state, self.sizes)),
+            count: 0,
+        })
     }
 
     // The next boot swaps the images.

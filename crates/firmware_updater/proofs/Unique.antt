@@ -6,8 +6,8 @@ use Prim.Native.Nat.{ℕ}
 use Rattle.state.specs.OneResult.{OneResult}
 use Rattle.geometry.specs.declared.Sizes.{Sizes}
 use Rattle.mem_flash.specs.Flash.{Flash}
-use Rattle.rules.specs.declared.Answer.{Answer}
-use Rattle.rules.specs.declared.Sector.{Sector}
+use Rattle.rules.specs.Calls.{Answer}
+use Rattle.rules.specs.FirmwareUpdater.{Sector}
 use Rattle.rules.proofs.Unique.{unique, answer_unique}
 use Rattle.firmware_hash.proofs.Unique.{hashed_unique}
 use Rattle.firmware_updater.specs.declared.BlockingFirmwareUpdater.{BlockingFirmwareUpdater}

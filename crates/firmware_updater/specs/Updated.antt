@@ -1,12 +1,15 @@
--- What is promised of the updater's calls that hand its record back: the definition's answer and areas, and the record.
--- Assumes nothing.
+-- What is promised of the updater's calls that mark, and of those that hand its record back: the definition's answer and areas, and the
+-- record. Assumes nothing.
 use Rattle.std.specs.Prelude.{◌≡◌, List, [], ℕ}
+use Rattle.mem_flash.specs.Flash.{Flash}
 use Rattle.mem_flash.specs.Run.{flash}
-use Rattle.rules.specs.declared.Sector.{Sector}
-use Rattle.rules.specs.declared.Answer.{Answer}
-use Rattle.rules.specs.Calls.{Did}
-use Rattle.rules.specs.FirmwareUpdater.{write_firmware, memory, prepare_update}
+use Rattle.rules.specs.Calls.{Answer, Call, Did}
+use Rattle.rules.specs.FirmwareUpdater.{Sector, write_firmware, memory, prepare_update}
 use Rattle.firmware_updater.specs.declared.BlockingFirmwareUpdater.{BlockingFirmwareUpdater}
+
+-- a call that marks, with a budget of k and DFU d: the state area s becomes s', the answer is r
+abbrev pub Marked : (Flash → Call) → ℕ → List ℕ → List ℕ → List ℕ → Answer → Type 0
+Marked call k d s s' r = Did (call (flash [] d s)) k (flash [] d s) (flash [] d s') r
 
 -- the sector that an updater remembers
 abbrev pub last_of : BlockingFirmwareUpdater → Sector

@@ -10,7 +10,7 @@ use Rattle.geometry.specs.declared.Geometry.{Geometry}
 use Rattle.geometry.specs.declared.StateSizes.{StateSizes}
 use Rattle.geometry.specs.declared.Sizes.{Sizes}
 use Rattle.geometry.specs.declared.Refusal.TheVariants.{Limit, Page, Area, StateArea, BadState, Range, Checksum}
-use Rattle.geometry.specs.declared.Verdict.TheVariants.{Admitted as admits, Refused}
+use Rattle.std.specs.Prelude.{Ok, Err}
 use Rattle.geometry.specs.Geometry.{pages}
 use Rattle.geometry.specs.Refusals.{verdict, Row, row, first_row, boot_refusal, state_refusal, updater_rows, updater_refusal, checked_refusal, most_length}
 use Rattle.geometry.specs.Refusals.{outside, state_numbers, boot_numbers, updater_numbers, uneven, uneven_page, uneven_areas, bad_state, boot_words, other_words}
@@ -101,26 +101,26 @@ admitted g la ld ls e =
 
 -- which row decides: the rows before it do not hold
 module _ (g : Geometry) (la ld ls : ℕ) where
-  pub boot_limit : outside (boot_numbers g) g.state.ev (la ∷ ld ∷ ls ∷ []) ≡ true → verdict (Refused Limit) ≡ boot_refusal g la ld ls
+  pub boot_limit : outside (boot_numbers g) g.state.ev (la ∷ ld ∷ ls ∷ []) ≡ true → verdict (Err Limit) ≡ boot_refusal g la ld ls
   unfolding verdict boot_refusal
   boot_limit p = sym (row_here _ _ p)
 
   module _ (p : outside (boot_numbers g) g.state.ev (la ∷ ld ∷ ls ∷ []) ≡ false) where
-    pub boot_page : uneven_page g ≡ true → verdict (Refused Page) ≡ boot_refusal g la ld ls
+    pub boot_page : uneven_page g ≡ true → verdict (Err Page) ≡ boot_refusal g la ld ls
     unfolding verdict boot_refusal
     boot_page q = sym (row_past _ _ p ∙ row_here _ _ q)
 
     module _ (q : uneven_page g ≡ false) where
-      pub boot_area : uneven_areas g la ld ≡ true → verdict (Refused Area) ≡ boot_refusal g la ld ls
+      pub boot_area : uneven_areas g la ld ≡ true → verdict (Err Area) ≡ boot_refusal g la ld ls
       unfolding verdict boot_refusal
       boot_area r = sym (row_past _ _ p ∙ row_past _ _ q ∙ row_here _ _ r)
 
       module _ (r : uneven_areas g la ld ≡ false) where
-        pub boot_state : bad_state (boot_words (pages g la)) g.state ls ≡ true → verdict (Refused StateArea) ≡ boot_refusal g la ld ls
+        pub boot_state : bad_state (boot_words (pages g la)) g.state ls ≡ true → verdict (Err StateArea) ≡ boot_refusal g la ld ls
         unfolding verdict boot_refusal
         boot_state s = sym (row_past _ _ p ∙ row_past _ _ q ∙ row_past _ _ r ∙ row_here _ _ s)
 
-        pub boot_admitted : bad_state (boot_words (pages g la)) g.state ls ≡ false → verdict admits ≡ boot_refusal g la ld ls
+        pub boot_admitted : bad_state (boot_words (pages g la)) g.state ls ≡ false → verdict (Ok tt) ≡ boot_refusal g la ld ls
         unfolding verdict boot_refusal
         boot_admitted s = sym (row_past _ _ p ∙ row_past _ _ q ∙ row_past _ _ r ∙ row_past _ _ s ∙ row_end)
 
@@ -132,7 +132,7 @@ state_some z ns p =
     ((number_in a.0).some, (number_in (any_none _ _ a.1).0).some)
 
 module _ (z : StateSizes) (ls : ℕ) where
-  pub state_limit : outside (state_numbers z) z.ev (ls ∷ []) ≡ true → verdict (Refused Limit) ≡ state_refusal z ls
+  pub state_limit : outside (state_numbers z) z.ev (ls ∷ []) ≡ true → verdict (Err Limit) ≡ state_refusal z ls
   unfolding verdict state_refusal
   state_limit p = sym (row_here _ _ p)
 
@@ -140,17 +140,17 @@ module _ (z : StateSizes) (ls : ℕ) where
     pub state_numbers_lem : (0 < z.es) × (0 < z.ws)
     state_numbers_lem = state_some z _ p
 
-    pub state_short : bad_state 2 z ls ≡ true → verdict (Refused StateArea) ≡ state_refusal z ls
+    pub state_short : bad_state 2 z ls ≡ true → verdict (Err StateArea) ≡ state_refusal z ls
     unfolding verdict state_refusal other_words
     state_short s = sym (row_past _ _ p ∙ row_here _ _ s)
 
-    pub state_admitted : bad_state 2 z ls ≡ false → verdict admits ≡ state_refusal z ls
+    pub state_admitted : bad_state 2 z ls ≡ false → verdict (Ok tt) ≡ state_refusal z ls
     unfolding verdict state_refusal other_words
     state_admitted s = sym (row_past _ _ p ∙ row_past _ _ s ∙ row_end)
 
 -- the updater: rows 1 to 4
 module _ (z : Sizes) (ld ls : ℕ) where
-  pub updater_limit : outside (updater_numbers z) z.state.ev (ld ∷ ls ∷ []) ≡ true → verdict (Refused Limit) ≡ updater_refusal z ld ls false false
+  pub updater_limit : outside (updater_numbers z) z.state.ev (ld ∷ ls ∷ []) ≡ true → verdict (Err Limit) ≡ updater_refusal z ld ls false false
   unfolding verdict updater_refusal updater_rows
   updater_limit p = sym (row_here _ _ p)
 
@@ -164,21 +164,21 @@ module _ (z : Sizes) (ld ls : ℕ) where
         let s = state_some z.state (ld ∷ ls ∷ []) b.1 in
         ((number_in a.0).some, (number_in b.0).some, s.0, s.1)
 
-    pub updater_page : uneven z.ed z.wd ≡ true → verdict (Refused Page) ≡ updater_refusal z ld ls false false
+    pub updater_page : uneven z.ed z.wd ≡ true → verdict (Err Page) ≡ updater_refusal z ld ls false false
     unfolding verdict updater_refusal updater_rows
     updater_page q = sym (row_past _ _ p ∙ row_here _ _ q)
 
     module _ (q : uneven z.ed z.wd ≡ false) where
-      pub updater_area : uneven ld z.ed ≡ true → verdict (Refused Area) ≡ updater_refusal z ld ls false false
+      pub updater_area : uneven ld z.ed ≡ true → verdict (Err Area) ≡ updater_refusal z ld ls false false
       unfolding verdict updater_refusal updater_rows
       updater_area r = sym (row_past _ _ p ∙ row_past _ _ q ∙ row_here _ _ r)
 
       module _ (r : uneven ld z.ed ≡ false) where
-        pub updater_state : bad_state 2 z.state ls ≡ true → verdict (Refused StateArea) ≡ updater_refusal z ld ls false false
+        pub updater_state : bad_state 2 z.state ls ≡ true → verdict (Err StateArea) ≡ updater_refusal z ld ls false false
         unfolding verdict updater_refusal updater_rows other_words
         updater_state s = sym (row_past _ _ p ∙ row_past _ _ q ∙ row_past _ _ r ∙ row_here _ _ s)
 
-        pub updater_admitted : bad_state 2 z.state ls ≡ false → verdict admits ≡ updater_refusal z ld ls false false
+        pub updater_admitted : bad_state 2 z.state ls ≡ false → verdict (Ok tt) ≡ updater_refusal z ld ls false false
         unfolding verdict updater_refusal updater_rows other_words
         updater_admitted s =
             sym (row_past _ _ p ∙ row_past _ _ q ∙ row_past _ _ r ∙ row_past _ _ s ∙ row_past _ _ refl ∙ row_past _ _ refl ∙ row_end)
@@ -223,16 +223,16 @@ module _ (z : Sizes) (ld ls : ℕ) (swap range : Bool) where
     unfolding updater_refusal
     late = rows_late (updater_rows z ld ls) _ _ e
 
-    pub updater_swap : swap ≡ true → verdict (Refused BadState) ≡ updater_refusal z ld ls swap range
+    pub updater_swap : swap ≡ true → verdict (Err BadState) ≡ updater_refusal z ld ls swap range
     unfolding verdict
     updater_swap h = sym (late ∙ row_here _ _ h)
 
     module _ (h : swap ≡ false) where
-      pub updater_range : range ≡ true → verdict (Refused Range) ≡ updater_refusal z ld ls swap range
+      pub updater_range : range ≡ true → verdict (Err Range) ≡ updater_refusal z ld ls swap range
       unfolding verdict
       updater_range k = sym (late ∙ row_past _ _ h ∙ row_here _ _ k)
 
-      pub updater_passed : range ≡ false → verdict admits ≡ updater_refusal z ld ls swap range
+      pub updater_passed : range ≡ false → verdict (Ok tt) ≡ updater_refusal z ld ls swap range
       unfolding verdict
       updater_passed k = sym (late ∙ row_past _ _ h ∙ row_past _ _ k ∙ row_end)
 
@@ -260,16 +260,16 @@ module _ (z : Sizes) (ld ls : ℕ) (swap range sum : Bool) where
     behind : checked_refusal z ld ls swap range sum ≡ first_row (row Range range ∷ row Checksum sum ∷ [])
     behind = apart ∙ rows_late asked _ _ (sym alone ∙ e)
 
-    pub checked_range : range ≡ true → verdict (Refused Range) ≡ checked_refusal z ld ls swap range sum
+    pub checked_range : range ≡ true → verdict (Err Range) ≡ checked_refusal z ld ls swap range sum
     unfolding verdict
     checked_range h = sym (behind ∙ row_here _ _ h)
 
     module _ (h : range ≡ false) where
-      pub checked_sum : sum ≡ true → verdict (Refused Checksum) ≡ checked_refusal z ld ls swap range sum
+      pub checked_sum : sum ≡ true → verdict (Err Checksum) ≡ checked_refusal z ld ls swap range sum
       unfolding verdict
       checked_sum k = sym (behind ∙ row_past _ _ h ∙ row_here _ _ k)
 
-      pub checked_passed : sum ≡ false → verdict admits ≡ checked_refusal z ld ls swap range sum
+      pub checked_passed : sum ≡ false → verdict (Ok tt) ≡ checked_refusal z ld ls swap range sum
       unfolding verdict
       checked_passed k = sym (behind ∙ row_past _ _ h ∙ row_past _ _ k ∙ row_end)
 

@@ -7,9 +7,8 @@ use Rattle.state.specs.Choice.{pick}
 use Rattle.state.specs.OneResult.{OneResult}
 use Rattle.geometry.specs.declared.Refusal.{Refusal}
 use Rattle.geometry.specs.declared.Refusal.TheVariants.{Limit, Page, Area, StateArea, BadState, Range, Checksum}
-use Rattle.geometry.specs.declared.Verdict.{Verdict}
-use Rattle.geometry.specs.declared.Verdict.TheVariants.{Admitted, Refused}
-use Rattle.geometry.specs.Refusals.{number, verdict}
+use Rattle.std.specs.Prelude.{Ok, Err}
+use Rattle.geometry.specs.Refusals.{number, Verdict, verdict}
 use Rattle.geometry.proofs.Refusal.number.Kinds as number_kinds
 use Rattle.geometry.proofs.Refusal.number.Reads as number_reads
 use Rattle.geometry.proofs.StateSizes.cell.Kinds as cell_kinds
@@ -38,18 +37,18 @@ refusal_back Range = refl
 refusal_back Checksum = refl
 
 verdict_of : ℕ → Verdict
-verdict_of n = pick (eqb n 0) Admitted (Refused (refusal_of n))
+verdict_of n = pick (eqb n 0) (Ok tt) (Err (refusal_of n))
 
 verdict_back : (v : Verdict) → verdict_of (verdict v) ≡ v
 unfolding verdict_of refusal_of verdict number pick
-verdict_back Admitted = refl
-verdict_back (Refused Limit) = refl
-verdict_back (Refused Page) = refl
-verdict_back (Refused Area) = refl
-verdict_back (Refused StateArea) = refl
-verdict_back (Refused BadState) = refl
-verdict_back (Refused Range) = refl
-verdict_back (Refused Checksum) = refl
+verdict_back (Ok tt) = refl
+verdict_back (Err Limit) = refl
+verdict_back (Err Page) = refl
+verdict_back (Err Area) = refl
+verdict_back (Err StateArea) = refl
+verdict_back (Err BadState) = refl
+verdict_back (Err Range) = refl
+verdict_back (Err Checksum) = refl
 
 pub verdict_unique : (v w : Verdict) → verdict v ≡ verdict w → v ≡ w
 verdict_unique v w e = sym (verdict_back v) ∙ ap verdict_of e ∙ verdict_back w

@@ -1,5 +1,5 @@
 -- Document 01, "When a call says no": the table, row by row. Numbers are whole numbers, so no sum wraps. Assumes nothing.
-use Rattle.std.specs.Prelude.{Bool, true, false, not, List, [], ◌∷◌, map, ◌++◌, ℕ, ◌+◌, ◌*◌, ◌%◌, ltb, eqb}
+use Rattle.std.specs.Prelude.{Result, Ok, Err, Bool, true, false, not, List, [], ◌∷◌, map, ◌++◌, ℕ, ◌+◌, ◌*◌, ◌%◌, ltb, eqb}
 use Rattle.state.specs.declared.Cell.TheVariants.{High, Low}
 use Rattle.state.specs.Choice.{pick}
 use Rattle.state.specs.Cells.{erased}
@@ -8,8 +8,6 @@ use Rattle.geometry.specs.declared.StateSizes.{StateSizes}
 use Rattle.geometry.specs.declared.Sizes.{Sizes}
 use Rattle.geometry.specs.declared.Refusal.{Refusal}
 use Rattle.geometry.specs.declared.Refusal.TheVariants.{Limit, Page, Area, StateArea, BadState, Range, Checksum}
-use Rattle.geometry.specs.declared.Verdict.{Verdict}
-use Rattle.geometry.specs.declared.Verdict.TheVariants.{Admitted, Refused}
 use Rattle.geometry.specs.Geometry.{page, pages, words}
 
 -- one of them holds
@@ -27,10 +25,13 @@ number BadState = 5
 number Range = 6
 number Checksum = 8
 
--- and of a verdict: 0 where the call is admitted
+-- a verdict: the call is admitted, or refused; and its number, 0 where it is admitted
+abbrev pub Verdict : Type 0
+Verdict = Result (Unit {0}) Refusal
+
 unfoldable pub verdict : Verdict → ℕ
-verdict Admitted = 0
-verdict (Refused r) = number r
+verdict (Ok _) = 0
+verdict (Err r) = number r
 
 -- a row of the table: the refusal that it stands for, and whether it holds of a call
 pub data Row : Type 0 where

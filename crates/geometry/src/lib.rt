@@ -1,7 +1,7 @@
 // The geometry of the three areas, and the refusals that stand for the Rust's assertions on it. `verdicts` judges by them.
 #![tactic(auto)]
 
-ghost use Rattle.std.specs.Prelude.{◌≡◌, min};
+ghost use Rattle.std.specs.Prelude.{◌≡◌, ◌*◌, ◌^◌, ◌<◌, min};
 ghost use Rattle.geometry.specs.Geometry.{cell, page};
 ghost use Rattle.geometry.specs.Refusals.{number};
 
@@ -9,7 +9,7 @@ use state::Cell;
 
 // The sizes of the state area: its erase size and its write size; and the erase value, 255 or 0, which the three areas share. It stands
 // here since every call reads the state area.
-#[derive(Clone, Copy)]
+#[derive(Clone, Copy, Debug, PartialEq, Eq)]
 pub struct StateSizes {
     pub es: u32,
     pub ws: u32,
@@ -17,7 +17,7 @@ pub struct StateSizes {
 }
 
 // The sizes in bytes. In the Rust they are constants of the flash types, and the chunk is the length of a buffer.
-#[derive(Clone, Copy)]
+#[derive(Clone, Copy, Debug, PartialEq, Eq)]
 pub struct Geometry {
     // Active: erase size and write size.
     pub ea: u32,
@@ -31,7 +31,7 @@ pub struct Geometry {
 }
 
 // The sizes that the firmware updater reads: those of DFU and of the state area.
-#[derive(Clone, Copy)]
+#[derive(Clone, Copy, Debug, PartialEq, Eq)]
 pub struct Sizes {
     pub ed: u32,
     pub wd: u32,
@@ -39,54 +39,61 @@ pub struct Sizes {
 }
 
 // A page of an image, a word of the state area, a byte of an area: three kinds, so that none is passed for another.
-#[derive(Clone, Copy)]
+#[derive(Clone, Copy, Debug, PartialEq, Eq)]
 pub struct Page(pub usize);
 
-#[derive(Clone, Copy)]
+#[derive(Clone, Copy, Debug, PartialEq, Eq)]
 pub struct Word(pub usize);
 
-#[derive(Clone, Copy)]
+#[derive(Clone, Copy, Debug, PartialEq, Eq)]
 pub struct Offset(pub usize);
 
-// Why a call says no. `BadState` is the Rust's; the others are its assertions.
-#[derive(Clone, Copy)]
+// Why a call says no, with its number in the table; 7 is that of a cut. `BadState` is the Rust's; the others are its assertions.
+#[derive(Clone, Copy, Debug, PartialEq, Eq)]
 pub enum Refusal {
     // A number or a length is past its limit.
-    Limit,
+    Limit = 1,
     // The sizes do not divide a page.
-    Page,
+    Page = 2,
     // The images are no whole number of pages, or DFU is too short.
-    Area,
+    Area = 3,
     // The state area is no whole number of units, or has too few words.
-    StateArea,
+    StateArea = 4,
     // A swap is pending.
-    BadState,
+    BadState = 5,
     // The bytes asked for are not in the area, or not on its write units.
-    Range,
+    Range = 6,
     // The bytes do not have the sum that was expected.
-    Checksum,
-}
-
-#[derive(Clone, Copy)]
-pub enum Verdict {
-    Admitted,
-    Refused(Refusal),
+    Checksum = 8,
 }
 
 impl Refusal {
-    // The refusal's number in the table.
+    // The refusal's number in the table, its discriminant.
+    #[tactic(auto, unfolding(crate::specs::Refusals::number))]
     pub fn number(self) -> u32
         ensures { result ≡ number self }
     {
-        match self {
-            Refusal::Limit => 1,
-            Refusal::Page => 2,
-            Refusal::Area => 3,
-            Refusal::StateArea => 4,
-            Refusal::BadState => 5,
-            Refusal::Range => 6,
-            Refusal::Checksum => 8,
-        }
+        self as u32
+    }
+}
+
+impl Page {
+    // Where it begins in its image.
+    pub fn offset(self, page_size: usize) -> Offset
+        requires { self.0 * page_size < 2 ^ 64 }
+        ensures { result.0 ≡ self.0 * page_size }
+    {
+        Offset(self.0 * page_size)
+    }
+}
+
+impl Word {
+    // Where it begins in the state area.
+    pub fn offset(self, sizes: StateSizes) -> Offset
+        requires { self.0 * sizes.ws < 2 ^ 64 }
+        ensures { result.0 ≡ self.0 * sizes.ws }
+    {
+        Offset(self.0 * sizes.ws as usize)
     }
 }
 
@@ -109,9 +116,10 @@ impl Geometry {
     }
 }
 
-// The lesser of two numbers: what a range takes of the bytes that there are.
+// The lesser of two numbers, what a range takes of the bytes that there are: `min` by another name. No crate calls it any
+// more; it stays since the edits least_is_first and least_is_most speak of it.
 pub fn least(a: usize, b: usize) -> usize
     ensures { result ≡ min a b }
 {
-    if a < b { a } else { b }
+    a.min(b)
 }

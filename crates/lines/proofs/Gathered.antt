@@ -1,27 +1,33 @@
--- Laws of gathering a line from the pieces of the input: a turn of `gather`'s loop and each way out of it. Assumes nothing.
-use mathlib.Core.Path.{◌≡◌, refl, sym, ◌∙◌}
+-- Laws of gathering a line from the pieces of the input: each way out of `gather`. Assumes nothing.
+use mathlib.Core.Path.{◌≡◌, refl, ap, sym, ◌∙◌}
+use mathlib.Core.Logic.{inl, inr}
 use mathlib.Core.Bool.{Bool, true, false}
-use mathlib.Core.List.{List}
-use Prim.Native.Nat.{ℕ, suc, ◌+◌, ◌-◌, ◌≤◌, ◌<◌, min}
+use mathlib.Core.List.{List, [], append_assoc}
+use Prim.Native.Nat.{ℕ, ◌+◌, ◌-◌, ◌≤◌, ◌<◌, min}
 use native.Mathlib.Omega.{arith}
 use lib.Dec.{leb, ltb}
-use lib.ListN.{length, drop, get_or, set, length-drop, length-set}
-use lib.Seq.{paste, paste-zero, paste-suc, get_or-drop}
+use lib.ListN.{length, take, drop, length-drop, drop_of_length-le}
+use lib.Seq.{paste, paste-zero, drop-drop, take_all}
 use borrow.Author.Tests.{le-leb, lt-leb, lt-ltb, le-ltb, leb-true, leb-false, ltb-true, ltb-false}
+use borrow.Rule.Slice.PartMut.{put_mid}
+use Rattle.std.proofs.Common.{Option, None, Some, Bor}
+use Rattle.std.specs.Option.{unwrap_or}
+use Rattle.std.specs.Slice.{IsGetRangeResult}
 use Rattle.state.specs.Choice.{pick}
 use Rattle.numerals.specs.Text.{first}
-use Rattle.numerals.proofs.Splits.{first_here, first_turn, first_end}
 use Rattle.lines.specs.declared.Taken.{Taken}
 use Rattle.lines.specs.declared.Taken.TheVariants.{Line, Part, Long}
 use Rattle.lines.specs.Lines.{line_feed, taken_at, held_then}
 
--- the bytes of the piece from `at` to i are taken, m are held, and none of them is a line feed
-pub record Gathering (before piece held : List ℕ) (n at m i : ℕ) : Type 0 where
-  pub on : at ≤ i
-  pub count : m ≡ n + (i - at)
-  pub room : m ≤ length before
-  pub ends : first line_feed (drop at piece) ≡ i - at + first line_feed (drop i piece)
-  pub bytes : held ≡ paste before n (drop at piece) (i - at)
+-- what is left of a piece, by what `get` and `unwrap_or` ensure
+pub rest_is : (piece : List ℕ) (at : ℕ) (o : Option (Bor (List ℕ))) (none rest : Bor (List ℕ)) → IsGetRangeResult piece at (length piece) o
+    → none.now ≡ [] → rest ≡ unwrap_or o none → rest.now ≡ drop at piece
+rest_is piece at None none rest g n r =
+    let l : length piece ≤ at = elim g.0 [ inl h ↦ omega arith | inr h ↦ omega arith ] in
+    ap (λ (x : Bor (List ℕ)). x.now) r ∙ n ∙ sym (drop_of_length-le piece l)
+rest_is piece at (Some x) none rest g n r =
+    let l : length (drop at piece) ≤ length piece - at = omega (arith, length-drop at piece) in
+    ap (λ (x : Bor (List ℕ)). x.now) r ∙ g.0.2 ∙ take_all (length piece - at) (drop at piece) l
 
 -- what is promised of the answer and of what is held
 abbrev pub Gathered : List ℕ → List ℕ → List ℕ → ℕ → ℕ → Taken → Type 0
@@ -35,65 +41,37 @@ over before piece n at h =
     let q : min (first line_feed (drop at piece)) (length before - n) ≡ 0 = omega arith in
     (rw (lt-leb _ _ f) refl, rw q (paste-zero before n (drop at piece)))
 
-pub begins : (before piece : List ℕ) (n at : ℕ) → n ≤ length before → Gathering before piece before n at n at
-begins before piece n at h =
-    let z : at - at ≡ 0 = omega arith in
-    record {
-      on = omega arith;
-      count = omega arith;
-      room = omega arith;
-      ends = omega arith;
-      bytes = rw z (paste-zero before n (drop at piece));
-    }
+wrote : (before rest : List ℕ) (n k : ℕ) → put_mid n k before (take k rest) ≡ paste before n rest k
+wrote before rest n k = rw (drop-drop k n before) (sym (append_assoc (take n before) (take k rest) (drop (n + k) before)))
 
-module _ (before piece held : List ℕ) (n at m i : ℕ) (g : Gathering before piece held n at m i) where
-  pub ends_line : i < length piece → get_or piece i 0 ≡ line_feed → Gathered before piece held n at (Line m (i + 1))
-  unfolding taken_at held_then pick
-  ends_line h e =
-      let f : first line_feed (drop at piece) ≡ i - at = omega (arith, g.ends, first_here i line_feed piece h e) in
-      let l : n + (i - at) ≤ length before = omega (arith, g.room, g.count) in
-      let p : at + (i - at) ≡ i = omega (arith, g.on) in
-      let q : min (i - at) (length before - n) ≡ i - at = omega (arith, l) in
-      (rw (f, le-leb _ _ l, p, lt-ltb _ _ h, ← g.count) refl, rw (f, q) g.bytes)
+-- k bytes come up to the line feed or the piece's end, and as many are copied as there is room for
+module _ (before piece new : List ℕ) (n at k room fits len : ℕ) (ends : k ≡ first line_feed (drop at piece)) (most : n ≤ length before)
+    (left : room ≡ length before - n) (fit : fits ≡ min k room) (count : len ≡ fits) (copied : new ≡ take fits (drop at piece)) where
+  holds : put_mid n len before new ≡ held_then (length before) before n piece at
+  unfolding held_then
+  holds =
+      let m : min (first line_feed (drop at piece)) (length before - n) ≡ fits = rw (← ends, ← left) (sym fit) in
+      rw (copied, count, m) (wrote before (drop at piece) n fits)
 
-  pub ends_piece : length piece ≤ i → Gathered before piece held n at (Part m)
-  unfolding taken_at held_then pick
-  ends_piece h =
-      let f : first line_feed (drop at piece) ≡ i - at = omega (arith, g.ends, first_end i line_feed piece h) in
-      let l : n + (i - at) ≤ length before = omega (arith, g.room, g.count) in
-      let p : at + (i - at) ≡ i = omega (arith, g.on) in
-      let q : min (i - at) (length before - n) ≡ i - at = omega (arith, l) in
-      (rw (f, le-leb _ _ l, p, le-ltb _ _ h, ← g.count) refl, rw (f, q) g.bytes)
+  pub too_long : room < k → Gathered before piece (put_mid n len before new) n at Long
+  unfolding taken_at pick
+  too_long r =
+      let f : length before < n + k = omega arith in
+      (rw (← ends, lt-leb _ _ f) refl, holds)
 
-  module _ (h : i < length piece) (other : get_or piece i 0 ≡ line_feed → ⊥) where
-    pub too_long : length before ≤ m → Gathered before piece held n at Long
-    unfolding taken_at held_then pick
-    too_long r =
-        let f : length before < n + first line_feed (drop at piece) =
-        omega (arith, g.ends, g.count, first_turn i line_feed piece h other) in
-        let q : min (first line_feed (drop at piece)) (length before - n) ≡ i - at = omega (arith, g.room, g.count) in
-        (rw (lt-leb _ _ f) refl, rw q g.bytes)
+  pub ends_line : k ≤ room → k < length (drop at piece) → Gathered before piece (put_mid n len before new) n at (Line (n + k) (at + k + 1))
+  unfolding taken_at pick
+  ends_line r l =
+      let f : n + k ≤ length before = omega arith in
+      let h : at + k < length piece = omega (arith, length-drop at piece) in
+      (rw (← ends, le-leb _ _ f, lt-ltb _ _ h) refl, holds)
 
-    byte : get_or piece i 0 ≡ get_or (drop at piece) (i - at) 0
-    byte =
-        let p : at + (i - at) ≡ i = omega (arith, g.on) in
-        sym (get_or-drop at piece (i - at) 0 ∙ rw p refl)
-
-    pub goes_on : m < length before → Gathering before piece (set held m (get_or piece i 0)) n at (m + 1) (i + 1)
-    goes_on r =
-        let j : i + 1 - at ≡ suc (i - at) = omega (arith, g.on) in
-        let w : n + (i - at) < length before = omega (arith, g.count) in
-        let v : i - at < length (drop at piece) = omega (arith, length-drop at piece, g.on) in
-        record {
-          on = omega (arith, g.on);
-          count = omega (arith, g.count, g.on);
-          room = omega (arith, g.count, g.on);
-          ends = omega (arith, g.ends, g.on, first_turn i line_feed piece h other);
-          bytes = rw (j, g.bytes, g.count, byte) (paste-suc before n (drop at piece) (i - at) 0 w v);
-        }
-
-    pub still_long : length held ≡ length before → length (set held m (get_or piece i 0)) ≡ length before
-    still_long l = simp length-set l
+  pub ends_piece : k ≤ room → length (drop at piece) ≤ k → Gathered before piece (put_mid n len before new) n at (Part (n + k))
+  unfolding taken_at pick
+  ends_piece r l =
+      let f : n + k ≤ length before = omega arith in
+      let h : length piece ≤ at + k = omega (arith, length-drop at piece) in
+      (rw (← ends, le-leb _ _ f, le-ltb _ _ h) refl, holds)
 
 -- ---- for whoever calls: what each answer tells, of k bytes up to the line feed
 

@@ -1,18 +1,14 @@
 -- The lines of the bench program's input, and what each kind of line says: request No. 4. Assumes nothing.
-use Rattle.std.specs.Prelude.{Bool, true, false, List, [], ◌∷◌, ℕ, ◌+◌, ◌-◌, min, leb, ltb, eqb, length, get_or, drop}
-use Rattle.std.proofs.Math.Option.{Option, none, some}
+use Rattle.std.specs.Prelude.{Bool, true, false, List, [], ◌∷◌, ℕ, ◌+◌, ◌-◌, min, leb, ltb, eqb, length, get_or, drop, Option, Some, None}
 use Rattle.std.proofs.Math.Seq.{paste}
 use Rattle.state.specs.declared.Cell.TheVariants.{High}
 use Rattle.state.specs.Cells.{erased}
 use Rattle.state.specs.Choice.{pick}
 use Rattle.numerals.specs.Text.{space, first, split, numbers, exactly, row}
-use Rattle.lines.specs.declared.SizesLine.{SizesLine}
-use Rattle.lines.specs.declared.LengthsLine.{LengthsLine}
-use Rattle.lines.specs.declared.LengthsLine.TheVariants as LengthsLineIs
-use Rattle.lines.specs.declared.SizesLine.TheVariants as SizesLineIs
+use Rattle.geometry.specs.declared.Geometry.{Geometry}
+use Rattle.lines.specs.declared.Lengths.{Lengths}
+use Rattle.lines.specs.declared.Command.{Command}
 use Rattle.lines.specs.declared.Command.TheVariants.{Update, Booted, Boot}
-use Rattle.lines.specs.declared.CommandLine.{CommandLine}
-use Rattle.lines.specs.declared.CommandLine.TheVariants as CommandLineIs
 use Rattle.lines.specs.declared.Taken.{Taken}
 use Rattle.lines.specs.declared.Taken.TheVariants.{Line, Part, Long}
 
@@ -54,10 +50,10 @@ held_then most held n piece at = paste held n (drop at piece) (min (first line_f
 -- ---- what a line says
 
 -- the first line: Ea Wa Ed Wd Es Ws b; the flash of the bench erases to FF
-unfoldable pub sizes_of : Option (List ℕ) → SizesLine
-sizes_of none = SizesLineIs.Other
-sizes_of (some ns) =
-    SizesLineIs.Sizes
+unfoldable pub sizes_of : Option (List ℕ) → Option Geometry
+sizes_of None = None
+sizes_of (Some ns) =
+    Some
     (record {
       ea = get_or ns 0 0;
       wa = get_or ns 1 0;
@@ -67,7 +63,7 @@ sizes_of (some ns) =
       b = get_or ns 6 0;
     })
 
-unfoldable pub sizes_line : List ℕ → SizesLine
+unfoldable pub sizes_line : List ℕ → Option Geometry
 sizes_line line = sizes_of (row 7 line)
 
 -- the longest area of the program
@@ -79,14 +75,12 @@ short [] = true
 short (n ∷ ns) = pick (leb n most_length) (short ns) false
 
 -- the second line: La Ld Ls
-unfoldable pub lengths_of : Option (List ℕ) → LengthsLine
-lengths_of none = LengthsLineIs.Other
-lengths_of (some ns) =
-    pick (short ns)
-    (LengthsLineIs.Lengths (record { active = get_or ns 0 0; dfu = get_or ns 1 0; state = get_or ns 2 0 }))
-    LengthsLineIs.Other
+unfoldable pub lengths_of : Option (List ℕ) → Option Lengths
+lengths_of None = None
+lengths_of (Some ns) =
+    pick (short ns) (Some (record { active = get_or ns 0 0; dfu = get_or ns 1 0; state = get_or ns 2 0 })) None
 
-unfoldable pub lengths_line : List ℕ → LengthsLine
+unfoldable pub lengths_line : List ℕ → Option Lengths
 lengths_line line = lengths_of (row 3 line)
 
 -- two words are the same
@@ -107,20 +101,19 @@ abbrev pub boot : List ℕ
 boot = 98 ∷ 111 ∷ 111 ∷ 116 ∷ []
 
 -- a command by its name
-unfoldable pub named : List ℕ → ℕ → CommandLine
+unfoldable pub named : List ℕ → ℕ → Option Command
 named w k =
-    pick (alike w update) (CommandLineIs.Command (Update k))
-    (pick (alike w booted) (CommandLineIs.Command (Booted k)) (pick (alike w boot) (CommandLineIs.Command (Boot k)) CommandLineIs.Other))
+    pick (alike w update) (Some (Update k)) (pick (alike w booted) (Some (Booted k)) (pick (alike w boot) (Some (Boot k)) None))
 
-unfoldable pub ordered : List ℕ → Option (List ℕ) → CommandLine
-ordered w none = CommandLineIs.Other
-ordered w (some ns) = named w (get_or ns 0 0)
+unfoldable pub ordered : List ℕ → Option (List ℕ) → Option Command
+ordered w None = None
+ordered w (Some ns) = named w (get_or ns 0 0)
 
 -- a name, and one number
-unfoldable pub command_of : List (List ℕ) → CommandLine
-command_of [] = CommandLineIs.Other
+unfoldable pub command_of : List (List ℕ) → Option Command
+command_of [] = None
 command_of (w ∷ ws) = ordered w (exactly 1 (numbers ws))
 
 -- every further line
-unfoldable pub command_line : List ℕ → CommandLine
+unfoldable pub command_line : List ℕ → Option Command
 command_line line = command_of (split space line)

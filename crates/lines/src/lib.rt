@@ -4,52 +4,60 @@
 #![tactic(auto)]
 
 ghost use Rattle.std.specs.Prelude.{◌≡◌, length};
-ghost use Rattle.lines.specs.Lines.{sizes_line, lengths_line, command_line, most_bytes, taken_at, held_then};
+ghost use Rattle.numerals.specs.Text.{up_to};
+ghost use Rattle.lines.specs.Lines.{sizes_line, lengths_line, command_line, most_bytes, most_length, taken_at, held_then};
+ghost use Rattle.lines.specs.Grammar.{name_of};
 ghost use Rattle.lines.specs.Lines.{named as Lines·named};
 
 use geometry::{Geometry, StateSizes};
-use numerals::SPACE;
 use state::State;
 
-// The first line.
-#[derive(Clone, Copy)]
-pub enum SizesLine {
-    Sizes(Geometry),
-    Other,
-}
+// The most bytes that a line has.
+pub const MOST_BYTES: usize = 80;
+
+// The most bytes that an area has.
+pub const MOST_LENGTH: u32 = 16384;
+
+const LINE_FEED: u8 = b'\n';
+
+// The names of the commands.
+const UPDATE: &[u8] = b"update";
+
+const BOOTED: &[u8] = b"booted";
+
+const BOOT: &[u8] = b"boot";
 
 // The lengths of the three areas.
-#[derive(Clone, Copy)]
+#[derive(Clone, Copy, Debug, PartialEq, Eq)]
 pub struct Lengths {
     pub active: usize,
     pub dfu: usize,
     pub state: usize,
 }
 
-// The second line.
-#[derive(Clone, Copy)]
-pub enum LengthsLine {
-    Lengths(Lengths),
-    Other,
-}
-
-// A command, with its budget.
-#[derive(Clone, Copy)]
+// A command, with its budget. A kind beside a number would be two types, and no match on them shorter.
+#[derive(Clone, Copy, Debug, PartialEq, Eq)]
 pub enum Command {
     Update(u32),
     Booted(u32),
     Boot(u32),
 }
 
-// Every further line.
-#[derive(Clone, Copy)]
-pub enum CommandLine {
-    Command(Command),
-    Other,
+impl Command {
+    // The name as bytes and no Display: a text is put together of bytes, which cannot fail.
+    pub fn name(self) -> &'static [u8]
+        ensures { result.now ≡ name_of self }
+    {
+        match self {
+            Command::Update(_) => UPDATE,
+            Command::Booted(_) => BOOTED,
+            Command::Boot(_) => BOOT,
+        }
+    }
 }
 
-// What a piece of the input added to a line.
-#[derive(Clone, Copy)]
+// What a piece of the input added to a line: three ways, so neither an Option nor a Result.
+#[derive(Clone, Copy, Debug, PartialEq, Eq)]
 pub enum Taken {
     // The line is whole: its bytes, and where the next one starts.
     Line(usize, usize),
@@ -59,11 +67,10 @@ pub enum Taken {
     Long,
 }
 
-const LINE_FEED: u8 = 10;
-
 // Takes the bytes of a piece from `at` on to the n that are held, up to a line feed. The input comes in pieces of any length, so a
-// line may begin in one and end in another.
-pub fn take_line(held: &mut [u8; 80], n: usize, piece: &[u8], at: usize) -> Taken
+// line may begin in one and end in another. The buffer and n stand apart: `held_then`, and with it the theorem `pieces`, says what the
+// buffer holds past n too.
+pub fn take_line(held: &mut [u8; MOST_BYTES], n: usize, piece: &[u8], at: usize) -> Taken
     ensures { (result ≡ taken_at most_bytes n piece.now at)
         × (held.new ≡ held_then most_bytes held.old n piece.now at) }
 {
@@ -75,104 +82,86 @@ fn gather(held: &mut [u8], n: usize, piece: &[u8], at: usize) -> Taken
     ensures { (result ≡ taken_at (length held.old) n piece.now at)
         × (held.new ≡ held_then (length held.old) held.old n piece.now at) }
 {
-    if n > held.len() {
+    let rest = piece.get(at..).unwrap_or(&[]);
+    let k = numerals::find(rest, LINE_FEED);
+    let Some(room) = held.len().checked_sub(n) else {
         return Taken::Long;
+    };
+    let fits = k.min(room);
+    held[n..n + fits].copy_from_slice(&rest[..fits]);
+    if k > room {
+        Taken::Long
+    } else if k < rest.len() {
+        Taken::Line(n + k, at + k + 1)
+    } else {
+        Taken::Part(n + k)
     }
-    let mut m = n;
-    let mut i = at;
-    while i < piece.len() {
-        if piece[i] == LINE_FEED {
-            return Taken::Line(m, i + 1);
-        }
-        if m >= held.len() {
-            return Taken::Long;
-        }
-        held[m] = piece[i];
-        m += 1;
-        i += 1;
-    }
-    Taken::Part(m)
 }
 
 // Ea Wa Ed Wd Es Ws b. The erase value is not in the line: the flash of the bench erases as the Rust's default build has it.
-pub fn read_sizes(line: &[u8]) -> SizesLine
+#[tactic(auto, unfolding(crate::specs::Lines::sizes_line, crate::specs::Lines::sizes_of, state::specs::Cells::erased))]
+pub fn read_sizes(line: &[u8]) -> Option<Geometry>
     ensures { result ≡ sizes_line line.now }
 {
-    let mut n = [0u32; 7];
-    if !numerals::row(line, &mut n) {
-        return SizesLine::Other;
-    }
-    SizesLine::Sizes(Geometry {
-        ea: n[0],
-        wa: n[1],
-        ed: n[2],
-        wd: n[3],
-        state: StateSizes {
-            es: n[4],
-            ws: n[5],
-            ev: State::ERASE_VALUE as u32,
-        },
-        b: n[6],
+    let [ea, wa, ed, wd, es, ws, b] = numerals::row::<7>(line)?;
+    let ev = State::ERASE_VALUE as u32;
+    let state = StateSizes { es, ws, ev };
+    Some(Geometry {
+        ea,
+        wa,
+        ed,
+        wd,
+        state,
+        b,
     })
 }
 
-// La Ld Ls, each at most 16,384.
-pub fn read_lengths(line: &[u8]) -> LengthsLine
+// La Ld Ls, each at most MOST_LENGTH.
+#[tactic(auto, using(crate::proofs::Said::first_long, crate::proofs::Said::second_long, crate::proofs::Said::third_long, crate::proofs::Said::all_short), unfolding(crate::specs::Lines::lengths_line, crate::specs::Lines::lengths_of))]
+pub fn read_lengths(line: &[u8]) -> Option<Lengths>
     ensures { result ≡ lengths_line line.now }
 {
-    let mut n = [0u32; 3];
-    if !numerals::row(line, &mut n) {
-        return LengthsLine::Other;
-    }
-    if n[0] > 16384 {
-        return LengthsLine::Other;
-    }
-    if n[1] > 16384 {
-        return LengthsLine::Other;
-    }
-    if n[2] > 16384 {
-        return LengthsLine::Other;
-    }
-    LengthsLine::Lengths(Lengths {
-        active: size(n[0]),
-        dfu: size(n[1]),
-        state: size(n[2]),
+    let [active, dfu, state] = numerals::row::<3>(line)?;
+    Some(Lengths {
+        active: length(active)?,
+        dfu: length(dfu)?,
+        state: length(state)?,
     })
 }
 
-fn size(x: u32) -> usize
-    ensures { result ≡ x }
+#[tactic(auto, unfolding(numerals::specs::Text::up_to, state::specs::Choice::pick))]
+fn length(n: u32) -> Option<usize>
+    ensures { result ≡ up_to most_length n }
 {
-    x as usize
+    if n <= MOST_LENGTH {
+        Some(n as usize)
+    } else {
+        None
+    }
 }
 
 // A name and a number.
-pub fn read_command(line: &[u8]) -> CommandLine
+#[tactic(auto, using(crate::proofs::Said::alone), unfolding(crate::specs::Lines::command_line, crate::specs::Lines::command_of, crate::specs::Lines::ordered, numerals::specs::Text::row))]
+pub fn read_command(line: &[u8]) -> Option<Command>
     ensures { result ≡ command_line line.now }
 {
-    let e = numerals::find(line, 0, SPACE);
-    if e >= line.len() {
-        return CommandLine::Other;
-    }
-    let rest = e + 1;
-    let mut k = [0u32; 1];
-    if !numerals::row(&line[rest..], &mut k) {
-        return CommandLine::Other;
-    }
-    named(&line[..e], k[0])
+    let (name, rest) = numerals::cut(line);
+    let [budget] = numerals::row::<1>(rest?)?;
+    named(name, budget)
 }
 
-fn named(name: &[u8], k: u32) -> CommandLine
-    ensures { result ≡ Lines·named name.now k }
+// Not a match on the words: each of the 18 ways in which it can miss them is a goal by itself.
+#[tactic(auto, using(crate::proofs::Said::same_is), unfolding(crate::specs::Lines::named, state::specs::Choice::pick))]
+fn named(name: &[u8], budget: u32) -> Option<Command>
+    ensures { result ≡ Lines·named name.now budget }
 {
-    if check::same(name, b"update") {
-        return CommandLine::Command(Command::Update(k));
+    if name == UPDATE {
+        Some(Command::Update(budget))
+    } else if name == BOOTED {
+        Some(Command::Booted(budget))
+    } else if name == BOOT {
+        Some(Command::Boot(budget))
+    } else {
+        None
     }
-    if check::same(name, b"booted") {
-        return CommandLine::Command(Command::Booted(k));
-    }
-    if check::same(name, b"boot") {
-        return CommandLine::Command(Command::Boot(k));
-    }
-    CommandLine::Other
 }

@@ -1,23 +1,24 @@
--- Laws of entries and of a step's numbers: what fits, and the entries of a step by their places. Serves the readers. Assumes nothing.
-use mathlib.Core.Path.{◌≡◌}
-use mathlib.Core.Bool.{false}
-use Prim.Native.Nat.{ℕ, ◌+◌, ◌-◌, ◌*◌, ◌/◌, ◌^◌, ◌≤◌, ◌<◌}
-use native.Mathlib.Nat.{mul-le-mul_right, le_of_lt}
+-- Laws of entries: the entries of a step by their places, and entries compared, as numbers and as the code has them. Serves the readers.
+-- Assumes nothing.
+use mathlib.Core.Path.{◌≡◌, refl, ap₂, ◌∙◌}
+use mathlib.Core.Bool.{Bool, true, false, ◌&&◌}
+use Prim.Native.Nat.{ℕ, ◌+◌, ◌-◌, ◌*◌, ◌≤◌, ◌<◌}
 use native.Mathlib.Omega.{arith}
+use denote.Enum.Bare.{sameb}
 use lib.Dec.{eqb}
 use borrow.Author.Tests.{lt-ltb, le-ltb, eq-eqb, ne_eqb}
 use Rattle.state.specs.Choice.{pick}
-use Rattle.geometry.specs.declared.Geometry.{Geometry}
-use Rattle.log_steps.specs.declared.Entry.{Entry}
-use Rattle.log_steps.specs.declared.Step.{Step}
-use Rattle.log_steps.specs.Entries.{entry}
-use Rattle.log_steps.specs.Steps.{step_for, nth}
+use Rattle.log_steps.specs.declared.Kind.{Kind}
+use Rattle.log_steps.specs.declared.Kind.TheVariants.{Erase, Write}
+use Rattle.log_steps.specs.declared.Area.{Area}
+use Rattle.log_steps.specs.declared.Area.TheVariants.{Active, Dfu, State}
+use Rattle.log_steps.specs.declared.Entry as code
+use Rattle.log_steps.specs.contracts.Kind as kinds
+use Rattle.log_steps.specs.contracts.Area as areas
+use Rattle.log_steps.specs.Entries.{Entry, entry}
+use Rattle.log_steps.specs.Steps.{Step, nth}
 use Rattle.log_steps.specs.Reader.{same}
-
--- ---- numbers that fit
-
-pub within : (s u : ℕ) {j n : ℕ} → j < n → s + n * u ≤ 2 ^ 34 → s + j * u ≤ 2 ^ 34
-within s u h b = omega (arith, mul-le-mul_right u (le_of_lt h), b)
+use Rattle.log_steps.specs.Code.{kind_of, area_of, numbers}
 
 -- ---- the entries of a step
 
@@ -34,36 +35,60 @@ module _ (s : Step) (j : ℕ) where
   unfolding nth pick
   nth_mark h l = rw (le-ltb j s.units h, le-ltb (j - s.units) s.chunks l)
 
--- its numbers, with those of the geometry as the code has them
-pub step_for_lem : (g : Geometry) (p area target mark : ℕ) {unit chunk word : ℕ} {u : ℕ} → unit ≡ u → chunk ≡ g.b → word ≡ g.state.ws
-    → record {
-      area = area;
-      start = target * p;
-      units = p / unit;
-      unit = unit;
-      chunks = p / chunk;
-      chunk = chunk;
-      mark = mark * word;
-      word = word;
-    } ≡ step_for g p area u target mark
-unfolding step_for
-step_for_lem g p area target mark a b c = cc
+-- an area's number
+pub area_few : (a : Area) → area_of a < 3
+area_few Active = omega arith
+area_few Dfu = omega arith
+area_few State = omega arith
 
--- ---- an entry compared
+-- ---- entries compared
 
 module _ (x y : Entry) where
   pub other_kind : (x.kind ≡ y.kind → ⊥) → false ≡ same x y
   unfolding same pick
   other_kind d = rw (ne_eqb x.kind y.kind d)
 
-  pub other_area : x.kind ≡ y.kind → (x.area ≡ y.area → ⊥) → false ≡ same x y
+  pub other_area : (x.area ≡ y.area → ⊥) → false ≡ same x y
   unfolding same pick
-  other_area k d = rw (eq-eqb x.kind y.kind k, ne_eqb x.area y.area d)
+  other_area d = rw (ne_eqb x.area y.area d) (go (eqb x.kind y.kind))
+    where
+      go : (b : Bool) → false ≡ pick b false false
+      go true = refl
+      go false = refl
 
   pub other_start : x.kind ≡ y.kind → x.area ≡ y.area → (x.start ≡ y.start → ⊥) → false ≡ same x y
   unfolding same pick
   other_start k a d = rw (eq-eqb x.kind y.kind k, eq-eqb x.area y.area a, ne_eqb x.start y.start d)
 
-  pub by_length : x.kind ≡ y.kind → x.area ≡ y.area → x.start ≡ y.start → eqb x.length y.length ≡ same x y
-  unfolding same pick
-  by_length k a s = rw (eq-eqb x.kind y.kind k, eq-eqb x.area y.area a, eq-eqb x.start y.start s)
+-- the code's entries are equal just if their numbers are
+kinds_same : (k l : Kind) → sameb kinds.the_type k l ≡ eqb (kind_of k) (kind_of l)
+kinds_same Erase Erase = refl
+kinds_same Erase Write = refl
+kinds_same Write Erase = refl
+kinds_same Write Write = refl
+
+areas_same : (a b : Area) → sameb areas.the_type a b ≡ eqb (area_of a) (area_of b)
+areas_same Active Active = refl
+areas_same Active Dfu = refl
+areas_same Active State = refl
+areas_same Dfu Active = refl
+areas_same Dfu Dfu = refl
+areas_same Dfu State = refl
+areas_same State Active = refl
+areas_same State Dfu = refl
+areas_same State State = refl
+
+all_four : (a b c d : Bool) → a && (b && (c && d)) ≡ pick a (pick b (pick c d false) false) false
+unfolding pick
+all_four true true true d = refl
+all_four true true false d = refl
+all_four true false c d = refl
+all_four false b c d = refl
+
+pub entries_same : (x y : code.Entry)
+    → sameb kinds.the_type x.kind y.kind && (sameb areas.the_type x.area y.area && (eqb x.start y.start && eqb x.length y.length))
+    ≡ same (numbers x) (numbers y)
+unfolding same
+entries_same x y =
+    ap₂ (λ (a b : Bool). a && (b && (eqb x.start y.start && eqb x.length y.length))) (kinds_same x.kind y.kind) (areas_same x.area y.area)
+    ∙ all_four _ _ _ _

@@ -1,109 +1,128 @@
 -- One step read entry by entry: what an entry makes of a reading, and the invariant of the loop, which looks forward: what is still
--- to be read makes the whole. Serves `read_step`. Assumes nothing.
+-- to be read makes the whole. Serves `Step::read`. Assumes nothing.
 use mathlib.Core.Path.{◌≡◌, refl, sym, ap, ◌∙◌}
 use mathlib.Core.Bool.{Bool, true, false}
 use mathlib.Core.List.{List, [], ◌∷◌}
-use Prim.Native.Nat.{ℕ, suc, ◌+◌, ◌-◌, ◌≤◌, ◌<◌}
+use mathlib.Core.Logic.{◌⊎◌, inl, inr}
+use Prim.Native.Nat.{ℕ, ◌+◌, ◌-◌, ◌≤◌, ◌<◌}
+use native.Mathlib.Decide.{dec_lt}
 use native.Mathlib.Omega.{arith}
 use native.Mathlib.Numerals.{add-one}
+use lib.ListN.{length, drop, get_or, length-drop, drop_of_length-le}
+use lib.Seq.{drop-cons}
 use borrow.Author.Tests.{eq-eqb, ne_eqb}
+use Rattle.std.specs.Prelude.{Option, None, Some, Result, Ok, Err, IsErr}
+use Rattle.std.specs.Borrow.{Bor}
+use Rattle.std.proofs.lemmas.List.{take_rest}
 use Rattle.state.specs.Choice.{pick}
-use Rattle.log_steps.specs.declared.Entry.{Entry}
-use Rattle.log_steps.specs.declared.Step.{Step}
-use Rattle.log_steps.specs.declared.Found.TheVariants.{Ends, Wrong, Marked}
-use Rattle.log_steps.specs.Steps.{nth, size}
-use Rattle.log_steps.specs.Reader.{same, entry_at, entries_from, tried, wrong, marked, read_step, Tells}
+use Rattle.log_steps.specs.Entries.{Entry, row_entry, entries}
+use Rattle.log_steps.specs.Steps.{Step, nth, size}
+use Rattle.log_steps.specs.declared.Misfit.{Misfit}
+use Rattle.log_steps.specs.Code.{Tells}
+use Rattle.log_steps.specs.Reader.{Reading, same, tried, goes, ends, wrong, marked, read_step}
+use Rattle.log_steps.proofs.Entries.{area_few, nth_erase, nth_write, nth_mark, other_kind, other_area}
 
 -- ---- an entry tried
 
 module _ (s : Step) (done : ℕ) (x : Entry) where
-  pub tried_on : true ≡ same x (nth s done) → done + 1 ≡ tried s done x
+  pub tried_on : true ≡ same x (nth s done) → Some (done + 1) ≡ tried s done x
   unfolding tried pick
   tried_on h = rw (sym h)
 
-  pub tried_again : false ≡ same x (nth s done) → true ≡ same x (nth s 0) → 1 ≡ tried s done x
+  pub tried_again : false ≡ same x (nth s done) → true ≡ same x (nth s 0) → Some 1 ≡ tried s done x
   unfolding tried pick
   tried_again h k = rw (sym h, sym k)
 
-  pub tried_no : false ≡ same x (nth s done) → false ≡ same x (nth s 0) → 0 ≡ tried s done x
+  pub tried_no : false ≡ same x (nth s done) → false ≡ same x (nth s 0) → None ≡ tried s done x
   unfolding tried pick
   tried_no h k = rw (sym h, sym k)
 
-  tried_most : done < size s → tried s done x ≤ size s
-  unfolding tried pick size
-  tried_most h = go (same x (nth s done)) (same x (nth s 0))
+  -- an entry of an unknown kind or area is none of a step
+  pub tried_unknown : s.area < 3 → (1 < x.kind) ⊎ (2 < x.area) → None ≡ tried s done x
+  tried_unknown a u = tried_no (none done) (none 0)
     where
-      go : (a b : Bool) → pick a (done + 1) (pick b 1 0) ≤ s.units + s.chunks + 1
-      go true b = omega (arith, h)
-      go false true = omega arith
-      go false false = omega arith
+      unlike : (y : Entry) → y.kind < 2 → y.area < 3 → (1 < x.kind) ⊎ (2 < x.area) → false ≡ same x y
+      unlike y k a (inl h) = other_kind x y (λ e. omega (arith, e))
+      unlike y k a (inr h) = other_area x y (λ e. omega (arith, e))
+
+      none : (j : ℕ) → false ≡ same x (nth s j)
+      none j = go (dec_lt j s.units) (dec_lt (j - s.units) s.chunks)
+        where
+          go : Dec (j < s.units) → Dec (j - s.units < s.chunks) → false ≡ same x (nth s j)
+          go (yes h) d = unlike _ (omega arith) a u ∙ ap (same x) (nth_erase s j h)
+          go (no h) (yes d) = unlike _ (omega arith) a u ∙ ap (same x) (nth_write s j (omega (arith, h)) d)
+          go (no h) (no d) = unlike _ (omega arith) (omega arith) u ∙ ap (same x) (nth_mark s j (omega (arith, h)) (omega (arith, d)))
+
+  -- no more than the step has
+  tried_most : {n : ℕ} → done < size s → Some n ≡ tried s done x → n ≤ size s
+  unfolding tried pick size
+  tried_most {n} h = go (same x (nth s done)) (same x (nth s 0))
+    where
+      go : (a b : Bool) → Some n ≡ pick a (Some (done + 1)) (pick b (Some 1) None) → n ≤ s.units + s.chunks + 1
+      go true b e = let m : n ≡ done + 1 = cc in omega (arith, h)
+      go false true e = let m : n ≡ 1 = cc in omega arith
+      go false false e = cc
 
   module _ (es : List Entry) where
-    pub turn_wrong : tried s done x ≡ 0 → read_step s done (x ∷ es) ≡ wrong
-    unfolding read_step pick
-    turn_wrong e = rw (eq-eqb (tried s done x) 0 e)
+    pub turn_wrong : None ≡ tried s done x → read_step s done (x ∷ es) ≡ wrong
+    unfolding read_step goes
+    turn_wrong e = rw (sym e)
 
-    pub turn_marked : (tried s done x ≡ 0 → ⊥) → tried s done x ≡ size s → read_step s done (x ∷ es) ≡ marked es
-    unfolding read_step pick
-    turn_marked n e = rw (ne_eqb (tried s done x) 0 n, eq-eqb (tried s done x) (size s) e)
+    pub turn_marked : (n : ℕ) → Some n ≡ tried s done x → n ≡ size s → read_step s done (x ∷ es) ≡ marked es
+    unfolding read_step goes pick
+    turn_marked n e z = rw (sym e, eq-eqb n (size s) z)
 
-    pub turn_on : (tried s done x ≡ 0 → ⊥) → (tried s done x ≡ size s → ⊥) → read_step s done (x ∷ es) ≡ read_step s (tried s done x) es
-    unfolding read_step pick
-    turn_on n e = rw (ne_eqb (tried s done x) 0 n, ne_eqb (tried s done x) (size s) e)
+    pub turn_on : (n : ℕ) → Some n ≡ tried s done x → (n ≡ size s → ⊥) → read_step s done (x ∷ es) ≡ read_step s n es
+    unfolding read_step goes pick
+    turn_on n e z = rw (sym e, ne_eqb n (size s) z)
 
--- ---- the entries that are left
+-- an answer that the code leaves with by a `?`
+pub tells_wrong : (log : List (List ℕ)) (r : Reading) (a : Result (Option (Bor (List (List ℕ)))) Misfit) → IsErr a → r ≡ wrong → Tells log r a
+tells_wrong log r (Ok o) h e = cc
+tells_wrong log r (Err x) h e = e
 
-pub entries_next : (log : List ℕ) (e count : ℕ) → e < count
-    → entries_from log e (count - e) ≡ entry_at log e ∷ entries_from log (e + 1) (count - (e + 1))
-unfolding entries_from
-entries_next log e count h =
-    let n : count - e ≡ suc (count - (e + 1)) = omega arith in
-    ap (entries_from log e) n ∙ ap (λ (i : ℕ). entry_at log e ∷ entries_from log i (count - (e + 1))) (sym (add-one e))
+-- ---- the rows that are left
 
-pub entries_none : (log : List ℕ) (e count : ℕ) → count ≤ e → entries_from log e (count - e) ≡ []
-unfolding entries_from
-entries_none log e count h = let n : count - e ≡ 0 = omega arith in ap (entries_from log e) n
+rows_next : (log : List (List ℕ)) (i : ℕ) → i < length log → entries (drop i log) ≡ row_entry (get_or log i []) ∷ entries (drop (i + 1) log)
+unfolding entries
+rows_next log i h = ap entries (drop-cons log i [] h ∙ ap (λ (j : ℕ). get_or log i [] ∷ drop j log) (sym (add-one i)))
 
--- ---- the loop
+-- ---- the loop: what is still to be read makes the whole
 
-pub record Going (log : List ℕ) (from count : ℕ) (s : Step) (e done : ℕ) : Type 0 where
-  pub begun : from ≤ e
-  pub place : e ≤ count
+pub record Going (log : List (List ℕ)) (s : Step) (i done : ℕ) : Type 0 where
   pub few : done < size s
-  pub whole : read_step s done (entries_from log e (count - e)) ≡ read_step s 0 (entries_from log from (count - from))
+  pub whole : read_step s done (entries (drop i log)) ≡ read_step s 0 (entries log)
 
-pub going_start : (log : List ℕ) (from count : ℕ) (s : Step) → from ≤ count → Going log from count s from 0
+pub going_start : (log : List (List ℕ)) (s : Step) → Going log s 0 0
 unfolding size
-going_start log from count s h = record { begun = omega arith; place = h; few = omega arith; whole = refl }
+going_start log s = record { few = omega arith; whole = refl }
 
-module _ {log : List ℕ} {from count : ℕ} {s : Step} {e done : ℕ} (i : Going log from count s e done) where
+module _ {log : List (List ℕ)} {s : Step} {i done : ℕ} (g : Going log s i done) where
   -- at the log's end
-  pub going_ends : count ≤ e → Tells log from count (read_step s 0 (entries_from log from (count - from))) Ends
-  unfolding read_step
-  going_ends h = sym i.whole ∙ ap (read_step s done) (entries_none log e count h)
+  pub going_ends : length log ≤ i → read_step s 0 (entries log) ≡ ends
+  unfolding read_step entries
+  going_ends h = sym g.whole ∙ ap (λ (r : List (List ℕ)). read_step s done (entries r)) (drop_of_length-le log h)
 
-  module _ (h : e < count) (r : ℕ) (t : r ≡ tried s done (entry_at log e)) where
-    abbrev rest : List Entry
-    rest = entries_from log (e + 1) (count - (e + 1))
+  module _ (h : i < length log) where
+    abbrev x : Entry
+    x = row_entry (get_or log i [])
 
-    here : read_step s done (entry_at log e ∷ rest) ≡ read_step s 0 (entries_from log from (count - from))
-    here = ap (read_step s done) (sym (entries_next log e count h)) ∙ i.whole
+    here : read_step s done (x ∷ entries (drop (i + 1) log)) ≡ read_step s 0 (entries log)
+    here = ap (read_step s done) (sym (rows_next log i h)) ∙ g.whole
 
-    pub going_wrong : r ≡ 0 → Tells log from count (read_step s 0 (entries_from log from (count - from))) Wrong
-    going_wrong z = sym here ∙ turn_wrong s done (entry_at log e) rest (sym t ∙ z)
+    pub going_wrong : None ≡ tried s done x → read_step s 0 (entries log) ≡ wrong
+    going_wrong t = sym here ∙ turn_wrong s done x (entries (drop (i + 1) log)) t
 
-    pub going_marked : (r ≡ 0 → ⊥) → r ≡ size s → Tells log from count (read_step s 0 (entries_from log from (count - from))) (Marked (e + 1))
-    going_marked n z =
-        (sym here ∙ turn_marked s done (entry_at log e) rest (λ x. n (t ∙ x)) (sym t ∙ z), omega (arith, i.begun), omega arith)
+    module _ (n : ℕ) (t : Some n ≡ tried s done x) where
+      pub going_marked : n ≡ size s → read_step s 0 (entries log) ≡ marked (entries (drop (i + 1) log))
+      going_marked z = sym here ∙ turn_marked s done x (entries (drop (i + 1) log)) n t z
 
-    pub going_on : (r ≡ 0 → ⊥) → (r ≡ size s → ⊥) → Going log from count s (e + 1) r
-    going_on n z =
-        record {
-          begun = omega (arith, i.begun);
-          place = omega arith;
-          few = omega (arith, tried_most s done (entry_at log e) i.few, t, z);
-          whole =
-              ap (λ (d : ℕ). read_step s d rest) t
-              ∙ sym (turn_on s done (entry_at log e) rest (λ x. n (t ∙ x)) (λ x. z (t ∙ x)))
-              ∙ here;
-        }
+      pub going_on : (n ≡ size s → ⊥) → Going log s (i + 1) n
+      going_on z =
+          record {
+            few = let l = tried_most s done x g.few t in omega (arith, z);
+            whole = sym (turn_on s done x (entries (drop (i + 1) log)) n t z) ∙ here;
+          }
+
+-- what the loop's goals are shown by
+pub ruleset rows_read = (area_few, tried_unknown, tells_wrong, take_rest, length-drop, going_start, going_ends, going_wrong, going_marked)

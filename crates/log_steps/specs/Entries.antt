@@ -1,7 +1,13 @@
 -- 02, No. 12: what a log keeps of an operation, and how a log is written down. Assumes nothing.
-use Rattle.std.specs.Prelude.{List, [], ◌∷◌, ℕ, length}
+use Rattle.std.specs.Prelude.{List, [], ◌∷◌, ℕ, length, get_or}
 use Rattle.mem_flash.specs.Flash.{Area, active, dfu, state, Op, erase, write}
-use Rattle.log_steps.specs.declared.Entry.{Entry}
+
+-- an entry as its numbers
+pub record Entry : Type 0 where
+  pub kind : ℕ
+  pub area : ℕ
+  pub start : ℕ
+  pub length : ℕ
 
 abbrev pub entry : ℕ → ℕ → ℕ → ℕ → Entry
 entry k a s n = record { kind = k; area = a; start = s; length = n }
@@ -21,3 +27,11 @@ entry_of (write c a at bs) = entry 1 (area_number a) at (length bs)
 unfoldable pub written : List Entry → List ℕ
 written [] = []
 written (e ∷ es) = e.kind ∷ e.area ∷ e.start ∷ e.length ∷ written es
+
+-- and read back, from rows of four numbers
+abbrev pub row_entry : List ℕ → Entry
+row_entry r = entry (get_or r 0 0) (get_or r 1 0) (get_or r 2 0) (get_or r 3 0)
+
+unfoldable pub entries : List (List ℕ) → List Entry
+entries [] = []
+entries (r ∷ rs) = row_entry r ∷ entries rs

@@ -1,13 +1,22 @@
--- What a step leaves in a log, entry by entry. Inner words of the readers: proofs/Made in `power_log` shows that these are the
+-- What a step leaves in a log, entry by entry. Inner words of the readers: proofs/StepLogs in `power_log` shows that these are the
 -- operations of a step, as the rules define them. Assumes nothing.
-use Rattle.std.specs.Prelude.{ℕ, ◌+◌, ◌-◌, ◌*◌, ◌/◌, ◌^◌, ◌≤◌, ltb}
+use Rattle.std.specs.Prelude.{ℕ, ◌+◌, ◌-◌, ◌*◌, ◌/◌, ltb}
 use Rattle.state.specs.Choice.{pick}
 use Rattle.geometry.specs.declared.Geometry.{Geometry}
 use Rattle.geometry.specs.Geometry.{page}
 use Rattle.rules.specs.Steps.{Copy, unit_of}
-use Rattle.log_steps.specs.declared.Entry.{Entry}
-use Rattle.log_steps.specs.declared.Step.{Step}
-use Rattle.log_steps.specs.Entries.{entry, area_number}
+use Rattle.log_steps.specs.Entries.{Entry, entry, area_number}
+
+-- a step by its numbers: erases of so many units, writes of so many chunks, and the mark's word
+pub record Step : Type 0 where
+  pub area : ℕ
+  pub start : ℕ
+  pub units : ℕ
+  pub unit : ℕ
+  pub chunks : ℕ
+  pub chunk : ℕ
+  pub mark : ℕ
+  pub word : ℕ
 
 -- a step fills page `target` of an area, of pages of p bytes and erase units of `unit` bytes, and marks a word
 unfoldable pub step_for : Geometry → ℕ → ℕ → ℕ → ℕ → ℕ → Step
@@ -39,10 +48,3 @@ nth s j =
 -- so many entries
 unfoldable pub size : Step → ℕ
 size s = s.units + s.chunks + 1
-
--- a step whose numbers fit
-pub record Small (s : Step) : Type 0 where
-  pub units : s.units ≤ 2 ^ 32
-  pub chunks : s.chunks ≤ 2 ^ 32
-  pub erases : s.start + s.units * s.unit ≤ 2 ^ 34
-  pub writes : s.start + s.chunks * s.chunk ≤ 2 ^ 34

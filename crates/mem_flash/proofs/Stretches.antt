@@ -8,11 +8,11 @@ use native.Mathlib.Omega.{arith}
 use lib.ListN.{length, take, drop, replicate, length-append, length-drop, length-replicate, take-append-drop, drop_of_length-le}
 use lib.Seq.{take_at, drop_at, take-append-le, drop-append-add, take-take, drop-drop, length-take-le}
 use Rattle.state.specs.declared.Cell.{Cell}
-use Rattle.state.specs.Cells.{erased, programmed}
+use Rattle.state.specs.Cells.{erased}
 use Rattle.mem_flash.specs.Flash.{blank, program, erased_at, written_at}
 use Rattle.mem_flash.specs.Areas.{Bytes}
 use Rattle.state.proofs.Cells.{programmed_erased}
-use Rattle.mem_flash.proofs.Bytes.{program_none}
+use Rattle.mem_flash.proofs.Bytes.{program_none, program_split}
 
 -- ---- lists of bytes
 
@@ -85,13 +85,6 @@ module _ (c : Cell) where
   program_erased [] zs h = program_none c zs
   program_erased (y ∷ ys) zs h =
       ap₂ (λ (a : ℕ) (r : List ℕ). a ∷ r) (programmed_erased c y h.0) (program_erased ys zs h.1)
-
-  -- programming bs changes the first length bs bytes at most
-  program_split : (xs bs : List ℕ) → program c xs bs ≡ program c (take (length bs) xs) bs ++ drop (length bs) xs
-  unfolding program
-  program_split xs [] = program_none c xs
-  program_split [] (b ∷ bs) = refl
-  program_split (x ∷ xs) (b ∷ bs) = ap (λ (r : List ℕ). programmed c x b ∷ r) (program_split xs bs)
 
   -- no erase and no write changes the length of an area, wherever it lies
   length_blank : (n : ℕ) (xs : List ℕ) → length (blank c n xs) ≡ length xs

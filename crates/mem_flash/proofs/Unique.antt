@@ -3,9 +3,8 @@
 use mathlib.Core.Path.{◌≡◌, sym, ap, ◌∙◌}
 use mathlib.Core.List.{[]}
 use Rattle.state.specs.OneResult.{OneResult}
-use Rattle.mem_flash.specs.declared.Flow.{Flow}
 use Rattle.mem_flash.specs.Flash.{active, Flash, change}
-use Rattle.mem_flash.specs.Run.{flash, End, ended, placed}
+use Rattle.mem_flash.specs.Run.{Flow, flash, End, ended, placed}
 use Rattle.mem_flash.proofs.erase.Kinds as erase_kinds
 use Rattle.mem_flash.proofs.erase.Reads as erase
 use Rattle.mem_flash.proofs.write.Kinds as write_kinds

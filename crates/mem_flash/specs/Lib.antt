@@ -1,3 +1,4 @@
 pub mod Flash
 pub mod Run
 pub mod Areas
+pub mod Given

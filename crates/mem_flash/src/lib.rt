@@ -2,108 +2,67 @@
 // A range that runs past the end of an area changes the bytes that are there, so nothing is asked of the caller.
 #![tactic(auto)]
 
-ghost use Rattle.std.specs.Prelude.{◌≡◌, ◌+◌, ◌-◌, ◌*◌, ◌≤◌, ◌<◌, ◌^◌, length, take, replicate};
+ghost use Rattle.std.specs.Prelude.{IfOk, OnErr, ◌≡◌, ℕ, ◌+◌, ◌-◌, ◌≤◌, ◌<◌, min, List, length, replicate};
 ghost use Rattle.state.specs.declared.Cell.{Cell as Cells};
 ghost use Rattle.state.specs.Cells.{erased, marked, programmed};
-ghost use Rattle.mem_flash.specs.Flash.{erased_at, written_at, unit_ops, erase_ops};
+ghost use Rattle.mem_flash.specs.Flash.{program, erase_ops};
 ghost use Rattle.mem_flash.specs.Run.{InArea, unit_op, write_ops};
+ghost use Rattle.mem_flash.specs.Given.{Gives};
 
 use geometry::Offset;
 use state::Cell;
+use std::ops::Range;
 
-// The operations that may still be done.
-#[derive(Drop)]
+// The operations that may still be done. It is handed in and back: an operation answers with what is left of it, and nobody can keep one
+// that was spent.
+#[derive(Debug, Drop, PartialEq, Eq)]
 pub struct Budget(pub u32);
 
-// What an operation answers: go on with this budget, or the power is cut and nothing was changed.
-#[derive(Drop)]
-pub enum Flow {
-    On(Budget),
-    Cut,
-}
+// An operation was wanted when none was left: the power is cut, and the operation changed nothing.
+#[derive(Clone, Copy, Debug, PartialEq, Eq)]
+pub struct PowerCut;
 
-// The loops know of the cells by a byte: which rule it stands for is decided once, and not at every byte.
-fn fill(area: &mut [u8], from: Offset, to: Offset, value: u8)
-    requires { to.0 ≤ length area.old }
-    ensures { (c : Cells) → value ≡ erased c → area.new ≡ erased_at c from.0 (to.0 - from.0) area.old }
-{
-    let end = to.0;
-    let mut i = from.0;
-    while i < end {
-        area[i] = value;
-        i += 1;
+impl Budget {
+    // One operation is done.
+    fn spend(self) -> Result<Budget, PowerCut>
+        ensures ok { IfOk result (λ rest. rest.0 + 1 ≡ self.0) }
+        ensures err { OnErr result (self.0 ≡ 0) }
+    {
+        self.0.checked_sub(1).map(Budget).ok_or(PowerCut)
     }
 }
 
-// What a write leaves of a byte, by what a mark would be: old AND new where that is 00, old OR new where it is FF.
+// The bytes of an area of `room` bytes that `len` bytes from an offset on are: those past its end are passed over.
+fn within(from: Offset, len: usize, room: usize) -> Range<usize>
+    ensures start { result.start ≡ min from.0 room }
+    ensures end { result.end ≡ result.start + min len (room - result.start) }
+{
+    let start = from.0.min(room);
+    start..start + len.min(room - start)
+}
+
+// What a write leaves of a byte, by what a mark would be: old AND new where that is 00, old OR new where it is FF. Which of the two
+// is decided once, and not at every byte.
 fn merged(old: u8, new: u8, mark: u8) -> u8
     ensures { (c : Cells) → mark ≡ marked c → result ≡ programmed c old new }
 {
     (old & (new | mark)) | (new & mark)
 }
 
-fn program(area: &mut [u8], offset: Offset, bytes: &[u8], len: usize, mark: u8)
-    requires { (offset.0 + len ≤ length area.old) × (len ≤ length bytes.now) }
-    ensures { (c : Cells) → mark ≡ marked c → area.new ≡ written_at c offset.0 (take len bytes.now) area.old }
-{
-    let at = offset.0;
-    let mut i = 0;
-    while i < len {
-        area[at + i] = merged(area[at + i], bytes[i], mark);
-        i += 1;
-    }
-}
-
-fn program_word(area: &mut [u8], offset: Offset, value: u8, len: usize, mark: u8)
-    requires { offset.0 + len ≤ length area.old }
-    ensures { (c : Cells) → mark ≡ marked c → area.new ≡ written_at c offset.0 (replicate len value) area.old }
-{
-    let at = offset.0;
-    let mut i = 0;
-    while i < len {
-        area[at + i] = merged(area[at + i], value, mark);
-        i += 1;
-    }
-}
-
 // Erases one unit: one operation.
-fn erase_unit(area: &mut [u8], from: Offset, to: Offset, cell: Cell, left: Budget) -> Flow
-    ensures { InArea left.0 (unit_op cell from.0 (to.0 - from.0)) area.old area.new result }
-{
-    let k = left.0;
-    if k == 0 {
-        return Flow::Cut;
-    }
-    let stop = geometry::least(to.0, area.len());
-    fill(area, from, Offset(stop), cell.erased());
-    Flow::On(Budget(k - 1))
-}
-
-// Erases so many units from an offset on, until a cut.
-fn erase_units(
+fn erase_unit(
     area: &mut [u8],
     from: Offset,
-    count: usize,
     unit: usize,
     cell: Cell,
     left: Budget,
-) -> Flow
-    requires { from.0 + count * unit < 2 ^ 64 }
-    ensures { InArea left.0 (λ a. unit_ops cell count unit a from.0) area.old area.new result }
+) -> Result<Budget, PowerCut>
+    ensures { InArea left.0 (unit_op cell from.0 unit) area.old area.new result }
 {
-    let mut at = from.0;
-    let mut still = left;
-    let mut i = 0;
-    while i < count {
-        let end = at + unit;
-        let Flow::On(rest) = erase_unit(area, Offset(at), Offset(end), cell, still) else {
-            return Flow::Cut;
-        };
-        still = rest;
-        at = end;
-        i += 1;
-    }
-    Flow::On(still)
+    let rest = left.spend()?;
+    let range = within(from, unit, area.len());
+    area[range].fill(cell.erased());
+    Ok(rest)
 }
 
 // Erases the bytes from one offset up to another, unit by unit: each unit is one operation. Units of no bytes are none.
@@ -114,30 +73,56 @@ pub fn erase(
     unit: usize,
     cell: Cell,
     left: Budget,
-) -> Flow
+) -> Result<Budget, PowerCut>
     ensures { InArea left.0 (λ a. erase_ops cell unit a from.0 (to.0 - from.0)) area.old area.new result }
 {
-    if unit == 0 {
-        return Flow::On(left);
+    let count = to.0.saturating_sub(from.0).checked_div(unit).unwrap_or(0);
+    let mut still = left;
+    for i in 0..count {
+        still = erase_unit(area, Offset(from.0 + i * unit), unit, cell, still)?;
     }
-    if to.0 < from.0 {
-        return Flow::On(left);
+    Ok(still)
+}
+
+// Writes one byte over each of a part of an area, the one at i as `byte` says.
+fn program<F: Fn(usize) -> u8>(part: &mut [u8], byte: F, mark: u8)
+    requires { (i : ℕ) → i < length part.old → F.pre byte i }
+    ensures { (c : Cells) (bs : List ℕ) → mark ≡ marked c → length part.old ≤ length bs → Gives (F.post byte) (length part.old) bs → part.new ≡ program c part.old bs }
+{
+    for (i, old) in part.iter_mut().enumerate() {
+        *old = merged(*old, byte(i), mark);
     }
-    erase_units(area, from, (to.0 - from.0) / unit, unit, cell, left)
+}
+
+// Writes `len` bytes at an offset, the one at i as `byte` says: one operation.
+fn write_by<F: Fn(usize) -> u8>(
+    area: &mut [u8],
+    offset: Offset,
+    len: usize,
+    byte: F,
+    cell: Cell,
+    left: Budget,
+) -> Result<Budget, PowerCut>
+    requires { (i : ℕ) → i < len → F.pre byte i }
+    ensures { (bs : List ℕ) → length bs ≡ len → Gives (F.post byte) len bs → InArea left.0 (write_ops cell offset.0 bs) area.old area.new result }
+{
+    let rest = left.spend()?;
+    let range = within(offset, len, area.len());
+    program(&mut area[range], byte, cell.marked());
+    Ok(rest)
 }
 
 // Writes bytes at an offset: one operation.
-pub fn write(area: &mut [u8], offset: Offset, bytes: &[u8], cell: Cell, left: Budget) -> Flow
+pub fn write(
+    area: &mut [u8],
+    offset: Offset,
+    bytes: &[u8],
+    cell: Cell,
+    left: Budget,
+) -> Result<Budget, PowerCut>
     ensures { InArea left.0 (write_ops cell offset.0 bytes.now) area.old area.new result }
 {
-    let k = left.0;
-    if k == 0 {
-        return Flow::Cut;
-    }
-    let at = geometry::least(offset.0, area.len());
-    let len = geometry::least(bytes.len(), area.len() - at);
-    program(area, Offset(at), bytes, len, cell.marked());
-    Flow::On(Budget(k - 1))
+    write_by(area, offset, bytes.len(), |i| bytes[i], cell, left)
 }
 
 // Writes one value over the `len` bytes of a word: one operation. The Rust fills a buffer for it.
@@ -148,15 +133,8 @@ pub fn write_word(
     len: usize,
     cell: Cell,
     left: Budget,
-) -> Flow
+) -> Result<Budget, PowerCut>
     ensures { InArea left.0 (write_ops cell offset.0 (replicate len value)) area.old area.new result }
 {
-    let k = left.0;
-    if k == 0 {
-        return Flow::Cut;
-    }
-    let at = geometry::least(offset.0, area.len());
-    let room = geometry::least(len, area.len() - at);
-    program_word(area, Offset(at), value, room, cell.marked());
-    Flow::On(Budget(k - 1))
+    write_by(area, offset, len, |_| value, cell, left)
 }

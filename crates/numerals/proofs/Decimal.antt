@@ -2,7 +2,7 @@
 use mathlib.Core.Path.{◌≡◌, refl, sym, ◌∙◌}
 use mathlib.Core.Bool.{Bool, true, false}
 use mathlib.Core.List.{List, [], ◌∷◌, ◌++◌, append_assoc, append-nil}
-use mathlib.Core.Option.{none, some}
+use Rattle.std.proofs.Common.{None, Some}
 use Prim.Native.Nat.{ℕ, zero, suc, ◌+◌, ◌*◌, ◌-◌, ◌/◌, ◌%◌, ◌^◌, ◌≤◌, ◌<◌}
 use native.Mathlib.Nat.{add-zero, zero-add, lt_of_lt_of_le, mul-le-mul_right, mul_assoc, pow-suc, pow-succ'}
 use native.Mathlib.Omega.{arith}
@@ -35,17 +35,17 @@ pub digits_are : (b : ℕ) (bs : List ℕ) → digits (b ∷ bs) ≡ true → (d
 unfolding digits
 digits_are b bs e = both_by (digit b) (digits bs) e
 
-up_by : (t : Bool) (m n v : ℕ) → leb v m ≡ t → pick t (some v) none ≡ some n → (v ≡ n) × (v ≤ m)
+up_by : (t : Bool) (m n v : ℕ) → leb v m ≡ t → pick t (Some v) None ≡ Some n → (v ≡ n) × (v ≤ m)
 unfolding pick
 up_by true m n v l e = (cc, leb-true v m l)
 up_by false m n v l e = let z : ◌≡◌ {A = ℕ} 0 1 = cc in absurd (omega arith)
 
-some_by : (t : Bool) (n v : ℕ) → pick t (up_to most_number v) none ≡ some n → (t ≡ true) × (v ≡ n) × (v ≤ most_number)
+some_by : (t : Bool) (n v : ℕ) → pick t (up_to most_number v) None ≡ Some n → (t ≡ true) × (v ≡ n) × (v ≤ most_number)
 unfolding pick up_to
 some_by true n v e = let u = up_by (leb v most_number) most_number n v refl e in (refl, u.0, u.1)
 some_by false n v e = let z : ◌≡◌ {A = ℕ} 0 1 = cc in absurd (omega arith)
 
-pub number_some : (w : List ℕ) (n : ℕ) → number w ≡ some n → (0 < length w) × (digits w ≡ true) × (value 0 w ≡ n) × (n ≤ most_number)
+pub number_some : (w : List ℕ) (n : ℕ) → number w ≡ Some n → (0 < length w) × (digits w ≡ true) × (value 0 w ≡ n) × (n ≤ most_number)
 unfolding number
 number_some [] n e = let z : ◌≡◌ {A = ℕ} 0 1 = cc in absurd (omega arith)
 number_some (b ∷ bs) n e =
@@ -83,7 +83,7 @@ value_below (b ∷ bs) a e =
     rw (pow-succ' 10 (length bs), ← mul_assoc (a + 1) 10 (10 ^ length bs))
     (lt_of_lt_of_le (value_below bs (a * 10 + (b - 48)) d.1) (mul-le-mul_right (10 ^ length bs) l))
 
-pub number_written : (w : List ℕ) (n : ℕ) → number w ≡ some n → Written w n
+pub number_written : (w : List ℕ) (n : ℕ) → number w ≡ Some n → Written w n
 unfolding spelled
 number_written w n e =
     let s = number_some w n e in
@@ -119,7 +119,7 @@ spelled_is (suc k) n h =
     let l : n / 10 < 10 ^ k = omega (arith, pow-suc 10 k) in
     value_append 0 (spelled k (n / 10)) ((48 + n % 10) ∷ []) ∙ rw (spelled_is k (n / 10) l) (omega arith)
 
-pub written_number : (w : List ℕ) (n : ℕ) → Written w n → some n ≡ number w
+pub written_number : (w : List ℕ) (n : ℕ) → Written w n → Some n ≡ number w
 written_number w n h =
     number_is n w h.some
     (rw h.text (spelled_digits (length w) n))

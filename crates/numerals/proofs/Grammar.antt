@@ -2,7 +2,7 @@
 use mathlib.Core.Path.{◌≡◌, refl, ap, sym, ◌∙◌}
 use mathlib.Core.Bool.{Bool, true, false}
 use mathlib.Core.List.{List, [], ◌∷◌, ◌++◌}
-use mathlib.Core.Option.{Option, none, some}
+use Rattle.std.proofs.Common.{Option, None, Some}
 use Prim.Native.Nat.{ℕ, suc, ◌<◌}
 use native.Mathlib.Omega.{arith}
 use lib.Dec.{eqb}
@@ -58,25 +58,25 @@ joined c (b ∷ bs) = joined_by (eqb b c) c b bs (split c bs) refl (joined c bs)
 
 -- ---- rows of numbers
 
-pub more_by : (m : Option ℕ) (o : Option (List ℕ)) (ns : List ℕ) → more m o ≡ some ns
-    → (n : ℕ) × (rest : List ℕ) × (m ≡ some n) × (o ≡ some rest) × (ns ≡ n ∷ rest)
+pub more_by : (m : Option ℕ) (o : Option (List ℕ)) (ns : List ℕ) → more m o ≡ Some ns
+    → (n : ℕ) × (rest : List ℕ) × (m ≡ Some n) × (o ≡ Some rest) × (ns ≡ n ∷ rest)
 unfolding more
-more_by none o ns e = let z : ◌≡◌ {A = ℕ} 0 1 = cc in absurd (omega arith)
-more_by (some n) none ns e = let z : ◌≡◌ {A = ℕ} 0 1 = cc in absurd (omega arith)
-more_by (some n) (some rest) ns e = (n, rest, refl, refl, cc)
+more_by None o ns e = let z : ◌≡◌ {A = ℕ} 0 1 = cc in absurd (omega arith)
+more_by (Some n) None ns e = let z : ◌≡◌ {A = ℕ} 0 1 = cc in absurd (omega arith)
+more_by (Some n) (Some rest) ns e = (n, rest, refl, refl, cc)
 
-words_row : (ws : List (List ℕ)) (ns : List ℕ) → 0 < length ws → numbers ws ≡ some ns → Row (join space ws) ns
+words_row : (ws : List (List ℕ)) (ns : List ℕ) → 0 < length ws → numbers ws ≡ Some ns → Row (join space ws) ns
 unfolding numbers join
 words_row [] ns p e = absurd (omega arith)
 words_row (w ∷ []) ns p e =
-    let m = more_by (number w) (some []) ns e in
+    let m = more_by (number w) (Some []) ns e in
     let q : ns ≡ m.0 ∷ [] = m.4 ∙ ap (λ r. m.0 ∷ r) (cc m.3) in
     rw q (grammar.Row.one (number_written w m.0 m.2))
 words_row (w ∷ v ∷ ws) ns p e =
     let m = more_by (number w) (numbers (v ∷ ws)) ns e in
     rw m.4 (grammar.Row.next (number_written w m.0 m.2) (words_row (v ∷ ws) m.1 (omega arith) m.3))
 
-exactly_by : (t : Bool) (k : ℕ) (ms ns : List ℕ) → eqb (length ms) k ≡ t → pick t (some ms) none ≡ some ns → (ms ≡ ns) × (length ns ≡ k)
+exactly_by : (t : Bool) (k : ℕ) (ms ns : List ℕ) → eqb (length ms) k ≡ t → pick t (Some ms) None ≡ Some ns → (ms ≡ ns) × (length ns ≡ k)
 unfolding pick
 exactly_by true k ms ns l e =
     let q : ms ≡ ns = cc in
@@ -84,13 +84,13 @@ exactly_by true k ms ns l e =
     (q, rw (← q) n)
 exactly_by false k ms ns l e = let z : ◌≡◌ {A = ℕ} 0 1 = cc in absurd (omega arith)
 
-pub exactly_some : (k : ℕ) (o : Option (List ℕ)) (ns : List ℕ) → exactly k o ≡ some ns → (o ≡ some ns) × (length ns ≡ k)
+pub exactly_some : (k : ℕ) (o : Option (List ℕ)) (ns : List ℕ) → exactly k o ≡ Some ns → (o ≡ Some ns) × (length ns ≡ k)
 unfolding exactly
-exactly_some k none ns e = let z : ◌≡◌ {A = ℕ} 0 1 = cc in absurd (omega arith)
-exactly_some k (some ms) ns e = let x = exactly_by (eqb (length ms) k) k ms ns refl e in (ap some x.0, x.1)
+exactly_some k None ns e = let z : ◌≡◌ {A = ℕ} 0 1 = cc in absurd (omega arith)
+exactly_some k (Some ms) ns e = let x = exactly_by (eqb (length ms) k) k ms ns refl e in (ap Some x.0, x.1)
 
 -- a line that is read as k numbers is written so
-pub row_written : (k : ℕ) (line ns : List ℕ) → row k line ≡ some ns → Row line ns × (length ns ≡ k)
+pub row_written : (k : ℕ) (line ns : List ℕ) → row k line ≡ Some ns → Row line ns × (length ns ≡ k)
 unfolding row
 row_written k line ns e =
     let x = exactly_some k (numbers (split space line)) ns e in
@@ -109,7 +109,7 @@ digit_plain c (b ∷ bs) l e =
 pub written_plain : (c : ℕ) (w : List ℕ) (n : ℕ) → c < 48 → Written w n → first c w ≡ length w
 written_plain c w n l h = digit_plain c w l (number_some w n (sym (written_number w n h))).1
 
-written_numbers : (line ns : List ℕ) → Row line ns → numbers (split space line) ≡ some ns
+written_numbers : (line ns : List ℕ) → Row line ns → numbers (split space line) ≡ Some ns
 unfolding numbers more
 written_numbers line ns (grammar.Row.one {w = w} {n = n} h) =
     rw (split_last space w (written_plain space w n (omega arith) h), ← written_number w n h) refl
@@ -117,6 +117,6 @@ written_numbers line ns (grammar.Row.next {w = w} {l = l} {ns = ms} {n = n} h r)
     rw (split_at space w l (written_plain space w n (omega arith) h), ← written_number w n h, written_numbers l ms r) refl
 
 -- and a line that is written so is read as its numbers
-pub written_row : (line ns : List ℕ) → Row line ns → row (length ns) line ≡ some ns
+pub written_row : (line ns : List ℕ) → Row line ns → row (length ns) line ≡ Some ns
 unfolding row exactly pick
 written_row line ns r = rw (written_numbers line ns r, eq-eqb (length ns) (length ns) refl) refl

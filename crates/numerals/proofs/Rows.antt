@@ -1,64 +1,69 @@
 -- Laws of a row of numbers: a turn of `row`'s loop and each way out of it. Assumes nothing.
 use mathlib.Core.Path.{◌≡◌, refl, sym, ◌∙◌}
-use mathlib.Core.Bool.{false}
-use mathlib.Core.List.{List, [], ◌∷◌, ◌++◌}
-use mathlib.Core.Option.{none, some}
-use Prim.Native.Nat.{ℕ, ◌+◌, ◌-◌, ◌≤◌, ◌<◌}
+use mathlib.Core.List.{List, [], ◌∷◌, ◌++◌, append-nil}
+use Rattle.std.proofs.Common.{Option, None, Some, Bor, MatchOption}
+use Prim.Native.Nat.{ℕ, ◌+◌, ◌≤◌, ◌<◌}
 use native.Mathlib.Numerals.{add-one}
 use native.Mathlib.Omega.{arith}
-use lib.Dec.{eqb}
-use lib.ListN.{length, take, drop, set, length-set, length-take}
-use lib.Seq.{take-suc-set}
-use Rattle.numerals.specs.Text.{space, first, split, number, numbers, row, row_of}
-use Rattle.numerals.proofs.Splits.{split_head, part_within, part_head, part_last, part_next}
-use Rattle.numerals.proofs.Numbers.{ahead, ahead_nil, numbers_turn, numbers_not, numbers_many, numbers_end}
+use lib.ListN.{length, take, set, length-take}
+use lib.Seq.{take-suc-set, take_all}
+use borrow.Author.Tests.{eq-eqb, ne_eqb}
+use Rattle.state.specs.Choice.{pick}
+use Rattle.numerals.specs.Text.{space, split, number, numbers, exactly, row}
+use Rattle.numerals.proofs.Splits.{split_head}
+use Rattle.numerals.proofs.Numbers.{ahead, ahead_nil, numbers_turn, numbers_not, numbers_many}
 
--- i numbers are read and stand in `out`; the rest of the line starts at `at`
-pub record Read (line out : List ℕ) (at i : ℕ) : Type 0 where
-  pub within : at ≤ length line
-  pub room : i ≤ length out
-  pub so_far : numbers (split space line) ≡ ahead (take i out) (numbers (split space (drop at line)))
+-- the words of what is left of a line
+unfoldable pub words : Option (Bor (List ℕ)) → List (List ℕ)
+words None = []
+words (Some rest) = split space rest.now
+
+-- what `cut` ensures
+pub words_cut : (after : Option (Bor (List ℕ))) (ws : List (List ℕ)) (w : List ℕ)
+    → MatchOption after (ws ≡ w ∷ []) (λ x. ws ≡ w ∷ split space x.now) → ws ≡ w ∷ words after
+unfolding words
+words_cut None ws w h = h
+words_cut (Some x) ws w h = h
+
+-- the first i words of a line are the first i numbers of `out`
+pub record Reads (line out : List ℕ) (i : ℕ) (left : Option (Bor (List ℕ))) : Type 0 where
+  pub so_far : numbers (split space line) ≡ ahead (take i out) (numbers (words left))
 
 -- before the first word
-pub row_begins : (line out : List ℕ) → Read line out 0 0
-row_begins line out = record { within = omega arith; room = omega arith; so_far = ahead_nil _ }
+pub row_begins : (line : Bor (List ℕ)) (out : List ℕ) → Reads line.now out 0 (Some line)
+unfolding words
+row_begins line out = record { so_far = ahead_nil _ }
 
--- more numbers than there is room for
-pub row_many : (k : ℕ) {line out : List ℕ} {at i : ℕ} → Read line out at i → length out ≤ i → length out ≡ k
-    → row_of false out ≡ row k line
-unfolding row_of row
-row_many k {line} {out} {at} {i} h m l =
-    let n : k ≤ length (take i out) = omega (arith, length-take i out) in
-    rw (h.so_far, split_head space (drop at line)) (numbers_many k (take i out) _ _ n)
+module _ {line out : List ℕ} {i : ℕ} where
+  -- fewer words than numbers are asked for
+  pub row_few : (k : ℕ) → length out ≡ k → Reads line out i None → i < length out → None ≡ row k line
+  unfolding row words numbers ahead exactly pick
+  row_few k e h l =
+      let n : length (take i out) < length out = omega (arith, length-take i out) in
+      rw (h.so_far, append-nil (take i out), ne_eqb (length (take i out)) k (λ q. omega arith)) refl
 
-module _ {line out : List ℕ} {at i e : ℕ} (h : Read line out at i) (found : e ≡ at + first space (drop at line)) where
-  -- the word ends in the line
-  pub row_within : e ≤ length line
-  row_within = part_within space at e line h.within found
+  -- as many
+  pub row_all : (k : ℕ) → length out ≡ k → Reads line out i None → length out ≤ i → Some out ≡ row k line
+  unfolding row words numbers ahead exactly pick
+  row_all k e h l = rw (h.so_far, append-nil (take i out), take_all i out l, eq-eqb (length out) k e) refl
 
-  -- a word that is no number
-  pub row_not : (k : ℕ) → none ≡ number (take (e - at) (drop at line)) → row_of false out ≡ row k line
-  unfolding row_of row
-  row_not k w = rw (h.so_far, part_head space at e line h.within found) (numbers_not k (take i out) _ _ w)
+  module _ (rest : Bor (List ℕ)) (w : List ℕ) (after : Option (Bor (List ℕ))) (h : Reads line out i (Some rest))
+      (cut : split space rest.now ≡ w ∷ words after) where
+    -- a word that is no number
+    pub row_not : (k : ℕ) → None ≡ number w → None ≡ row k line
+    unfolding row words
+    row_not k e = rw (h.so_far, cut) (numbers_not k (take i out) w (words after) e)
 
-  module _ (n : ℕ) (w : some n ≡ number (take (e - at) (drop at line))) (room : i < length out) where
-    put : take i out ++ (n ∷ []) ≡ take (i + 1) (set out i n)
-    put = rw add-one (sym (take-suc-set out i n room))
+    -- one that is
+    pub row_turn : (n : ℕ) → Some n ≡ number w → i < length out → Reads line (set out i n) (i + 1) after
+    unfolding words
+    row_turn n e l =
+        let t : take i out ++ (n ∷ []) ≡ take (i + 1) (set out i n) = rw add-one (sym (take-suc-set out i n l)) in
+        record { so_far = h.so_far ∙ rw (cut, numbers_turn (take i out) w n (words after) e, t) refl }
 
-    -- the last word
-    pub row_last : (k : ℕ) → e ≡ length line → length out ≡ k → row_of (eqb (i + 1) (length (set out i n))) (set out i n) ≡ row k line
-    unfolding row
-    row_last k z l =
-        let m : length (set out i n) ≡ k = length-set out i n ∙ l in
-        rw (m, h.so_far, part_last space at e line h.within found z, numbers_turn (take i out) _ n [] w, put)
-        (numbers_end k (i + 1) (set out i n) (omega arith) m)
-
-    -- any other
-    pub row_next : (e ≡ length line → ⊥) → Read line (set out i n) (e + 1) (i + 1)
-    row_next z =
-        record {
-          within = omega (arith, row_within, z);
-          room = rw (length-set out i n) (omega arith);
-          so_far =
-              h.so_far ∙ rw (part_next space at e line h.within found z, numbers_turn (take i out) _ n _ w, put) refl;
-        }
+  -- more
+  pub row_many : (k : ℕ) (rest : Bor (List ℕ)) → length out ≡ k → Reads line out i (Some rest) → length out ≤ i → None ≡ row k line
+  unfolding row words
+  row_many k rest e h l =
+      let n : k ≤ length (take i out) = omega (arith, length-take i out) in
+      rw (h.so_far, split_head space rest.now) (numbers_many k (take i out) _ _ n)

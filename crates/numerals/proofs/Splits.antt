@@ -1,31 +1,31 @@
--- Laws of cutting at a byte, for the loops that look for it: `find`, `row` and `take_line` cite them. Assumes nothing.
-use mathlib.Core.Path.{◌≡◌, refl, ap}
-use mathlib.Core.Bool.{Bool, true, false}
+-- Laws of cutting at a byte: where the search for it ends, and the words on either side. Assumes nothing.
+use mathlib.Core.Path.{◌≡◌, refl, ap, sym, ◌∙◌}
+use mathlib.Core.Bool.{Bool, true, false, cond, not}
+use Rattle.std.proofs.Common.{Option, None, Some}
+use Rattle.std.specs.Option.{unwrap_or}
+use Rattle.std.specs.List.{position, position_or_len}
 use mathlib.Core.List.{List, [], ◌∷◌}
 use Prim.Native.Nat.{ℕ, suc, ◌+◌, ◌-◌, ◌≤◌, ◌<◌}
 use native.Mathlib.Numerals.{add-one}
 use native.Mathlib.Omega.{arith}
-use lib.Dec.{eqb}
-use lib.ListN.{length, take, drop, get_or, length-drop, drop_of_length-le}
-use lib.Seq.{drop-cons, drop-drop, take-length}
-use borrow.Author.Tests.{eq-eqb, ne_eqb}
+use lib.Dec.{eqb, ltb}
+use lib.ListN.{length, take, drop, length-drop}
+use lib.Seq.{take_all}
+use borrow.Author.Tests.{ltb-false}
 use Rattle.state.specs.Choice.{pick}
 use Rattle.numerals.specs.Text.{grown, split, first}
 
--- ---- a turn of the search, and its end
+-- ---- where std's search ends
 
-module _ (i c : ℕ) (xs : List ℕ) where
-  pub first_here : i < length xs → get_or xs i 0 ≡ c → first c (drop i xs) ≡ 0
-  unfolding first pick
-  first_here h e = rw (drop-cons xs i 0 h, eq-eqb _ _ e)
+first_by : (t : Bool) (n : ℕ) → pick t 0 (suc n) ≡ cond (not t) (1 + n) 0
+unfolding pick
+first_by true n = refl
+first_by false n = omega arith
 
-  pub first_turn : i < length xs → (get_or xs i 0 ≡ c → ⊥) → first c (drop i xs) ≡ suc (first c (drop (i + 1) xs))
-  unfolding first pick
-  first_turn h e = rw (drop-cons xs i 0 h, ne_eqb _ _ e) (simp add-one)
-
-  pub first_end : length xs ≤ i → first c (drop i xs) ≡ 0
-  unfolding first
-  first_end h = rw (drop_of_length-le xs h)
+pub first_is : (c : ℕ) (xs : List ℕ) → first c xs ≡ position_or_len (λ b. eqb b c) xs
+unfolding first
+first_is c [] = refl
+first_is c (b ∷ bs) = rw (first_is c bs) (first_by (eqb b c) (position_or_len (λ b. eqb b c) bs))
 
 pick_le : (t : Bool) (n m : ℕ) → n ≤ m → pick t 0 (suc n) ≤ suc m
 unfolding pick
@@ -36,6 +36,16 @@ pub first_le : (c : ℕ) (xs : List ℕ) → first c xs ≤ length xs
 unfolding first
 first_le c [] = omega arith
 first_le c (b ∷ bs) = pick_le (eqb b c) (first c bs) (length bs) (first_le c bs)
+
+found_by : (t : Bool) (k n r : ℕ) → ltb k n ≡ t → k ≤ n → r ≡ unwrap_or (cond t (Some k) None) n → r ≡ k
+found_by true k n r e l h = h
+found_by false k n r e l h = omega (arith, h, ltb-false k n e)
+
+-- what its answer is, with the length where there is none
+pub first_found : (c : ℕ) (xs : List ℕ) (o : Option ℕ) (r : ℕ) → o ≡ position (λ b. eqb b c) xs → r ≡ unwrap_or o (length xs) → r ≡ first c xs
+first_found c xs o r e h =
+    let l : position_or_len (λ b. eqb b c) xs ≤ length xs = omega (arith, first_is c xs, first_le c xs) in
+    found_by _ (position_or_len (λ b. eqb b c) xs) (length xs) r refl l (rw e at h) ∙ sym (first_is c xs)
 
 -- ---- the words, the first of them apart
 
@@ -78,25 +88,14 @@ unfolding first split
 split_head c [] = refl
 split_head c (b ∷ bs) = head_by (eqb b c) b (first c bs) bs (split c bs) (split_head c bs)
 
--- ---- the same from a place in the middle, up to where the search ended
+-- ---- one word taken off
 
-module _ (c at e : ℕ) (s : List ℕ) (le : at ≤ length s) (found : e ≡ at + first c (drop at s)) where
-  pub part_within : e ≤ length s
-  part_within = omega (arith, first_le c (drop at s), length-drop at s)
+module _ (c : ℕ) (xs : List ℕ) where
+  pub cut_all : first c xs ≡ length xs → split c xs ≡ xs ∷ []
+  cut_all = split_last c xs
 
-  part_is : e - at ≡ first c (drop at s)
-  part_is = omega arith
-
-  pub part_head : split c (drop at s) ≡ take (e - at) (drop at s) ∷ drop 1 (split c (drop at s))
-  part_head = rw part_is (split_head c (drop at s))
-
-  pub part_last : e ≡ length s → split c (drop at s) ≡ take (e - at) (drop at s) ∷ []
-  part_last h =
-      let l : first c (drop at s) ≡ length (drop at s) = omega (arith, length-drop at s) in
-      rw part_is (rw l (rw take-length (split_last c (drop at s) l)))
-
-  pub part_next : (e ≡ length s → ⊥) → split c (drop at s) ≡ take (e - at) (drop at s) ∷ split c (drop (e + 1) s)
-  part_next h =
-      let l : first c (drop at s) < length (drop at s) = omega (arith, first_le c (drop at s), length-drop at s) in
-      let n : at + suc (first c (drop at s)) ≡ e + 1 = omega arith in
-      rw (part_is, ← n, ← drop-drop (suc (first c (drop at s))) at s) (split_next c (drop at s) l)
+  pub cut_on : first c xs < length xs
+      → split c xs ≡ take (first c xs) xs ∷ split c (take (length xs - (first c xs + 1)) (drop (first c xs + 1) xs))
+  cut_on l =
+      let w : length (drop (first c xs + 1) xs) ≤ length xs - (first c xs + 1) = omega (arith, length-drop (first c xs + 1) xs) in
+      rw (take_all _ _ w, add-one) (split_next c xs l)

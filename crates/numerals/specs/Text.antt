@@ -1,9 +1,6 @@
 -- Words and numbers of the bench program's input: request No. 4. Assumes nothing.
-use Rattle.std.specs.Prelude.{Bool, true, false, List, [], ◌∷◌, ℕ, suc, ◌+◌, ◌*◌, ◌-◌, leb, eqb, length}
-use Rattle.std.proofs.Math.Option.{Option, none, some}
+use Rattle.std.specs.Prelude.{Bool, true, false, List, [], ◌∷◌, ℕ, suc, ◌+◌, ◌*◌, ◌-◌, leb, eqb, length, Option, Some, None}
 use Rattle.state.specs.Choice.{pick}
-use Rattle.numerals.specs.declared.Numeral.{Numeral}
-use Rattle.numerals.specs.declared.Numeral.TheVariants.{Is, Not}
 
 -- what stands between words
 abbrev pub space : ℕ
@@ -43,39 +40,29 @@ most_number = 4294967295
 
 -- n where it is at most the limit
 unfoldable pub up_to : ℕ → ℕ → Option ℕ
-up_to most n = pick (leb n most) (some n) none
+up_to most n = pick (leb n most) (Some n) None
 
 -- the number that a word is: one digit or more, leading zeros among them, and nothing else
 unfoldable pub number : List ℕ → Option ℕ
-number [] = none
-number (b ∷ bs) = pick (digits (b ∷ bs)) (up_to most_number (value 0 (b ∷ bs))) none
+number [] = None
+number (b ∷ bs) = pick (digits (b ∷ bs)) (up_to most_number (value 0 (b ∷ bs))) None
 
 -- one more in front, if there is one and there are others
 unfoldable pub more : Option ℕ → Option (List ℕ) → Option (List ℕ)
-more none ns = none
-more (some n) none = none
-more (some n) (some ns) = some (n ∷ ns)
+more None ns = None
+more (Some n) None = None
+more (Some n) (Some ns) = Some (n ∷ ns)
 
 -- the numbers that all of these words are
 unfoldable pub numbers : List (List ℕ) → Option (List ℕ)
-numbers [] = some []
+numbers [] = Some []
 numbers (w ∷ ws) = more (number w) (numbers ws)
 
 -- just k of them
 unfoldable pub exactly : ℕ → Option (List ℕ) → Option (List ℕ)
-exactly k none = none
-exactly k (some ns) = pick (eqb (length ns) k) (some ns) none
+exactly k None = None
+exactly k (Some ns) = pick (eqb (length ns) k) (Some ns) None
 
 -- a line of k numbers with single spaces between
 unfoldable pub row : ℕ → List ℕ → Option (List ℕ)
 row k line = exactly k (numbers (split space line))
-
--- a word, as the code answers it
-unfoldable pub numeral_of : Numeral → Option ℕ
-numeral_of (Is n) = some n
-numeral_of Not = none
-
--- a row of numbers, as the code answers it: whether it is one, and the numbers
-unfoldable pub row_of : Bool → List ℕ → Option (List ℕ)
-row_of true ns = some ns
-row_of false ns = none

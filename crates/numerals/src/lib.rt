@@ -2,81 +2,63 @@
 // every function here answers just what they say.
 #![tactic(auto)]
 
-ghost use Rattle.std.specs.Prelude.{◌≡◌, ◌+◌, drop, length};
-ghost use Rattle.numerals.specs.Text.{first, number as Text·number, row as Text·row, numeral_of, row_of};
+ghost use Rattle.std.specs.Prelude.{◌≡◌, ◌≤◌, [], ◌∷◌, length, MatchOption};
+ghost use Rattle.numerals.specs.Text.{space, first, split, number as Text·number, row as Text·row};
 
-pub const SPACE: u8 = 32;
+pub const SPACE: u8 = b' ';
 
-// What a word is read as.
-#[derive(Clone, Copy)]
-pub enum Numeral {
-    Is(u32),
-    Not,
+// By hand: `parse` takes a sign, and a `&str`. A word that is past the limit is given up at the first digit too many, so no sum wraps however long it is.
+pub fn number(word: &[u8]) -> Option<u32>
+    ensures { result ≡ Text·number word.now }
+{
+    if word.is_empty() {
+        return None;
+    }
+    let mut n = 0u32;
+    for b in word {
+        if !b.is_ascii_digit() {
+            return None;
+        }
+        n = n.checked_mul(10)?.checked_add(u32::from(*b - b'0'))?;
+    }
+    Some(n)
 }
 
-fn wide(x: u8) -> u64
-    ensures { result ≡ x }
+// Where the first c stands; the end where there is none, since that is where a word is cut then. A line has 80 bytes at most, so
+// the search is no `memchr`.
+pub fn find(s: &[u8], c: u8) -> usize
+    ensures value { result ≡ first c s.now }
+    ensures bound { result ≤ length s.now }
 {
-    x as u64
+    s.iter().position(|b| *b == c).unwrap_or(s.len())
 }
 
-// A word that is past the limit is given up at the first digit too many, so no sum wraps however long it is.
-pub fn number(word: &[u8]) -> Numeral
-    ensures { numeral_of result ≡ Text·number word.now }
+// The first word of a line, and what follows its space, if there is one.
+pub fn cut(line: &[u8]) -> (&[u8], Option<&[u8]>)
+    ensures { MatchOption result.1 (split space line.now ≡ result.0.now ∷ [])
+        (λ rest. split space line.now ≡ result.0.now ∷ split space rest.now) }
 {
-    if word.len() == 0 {
-        return Numeral::Not;
+    let end = find(line, SPACE);
+    if end == line.len() {
+        (line, None)
+    } else {
+        (&line[..end], Some(&line[end + 1..]))
     }
-    let mut n: u64 = 0;
-    let mut i = 0;
-    while i < word.len() {
-        let b = word[i];
-        if b < 48 {
-            return Numeral::Not;
-        }
-        if b > 57 {
-            return Numeral::Not;
-        }
-        n = n * 10 + wide(b - 48);
-        if n > 4294967295 {
-            return Numeral::Not;
-        }
-        i += 1;
-    }
-    Numeral::Is(n as u32)
 }
 
-// Where the first c stands at or after `at`; the end where there is none.
-pub fn find(s: &[u8], at: usize, c: u8) -> usize
-    ensures { result ≡ at + first c (drop at s.now) }
+// The line's N numbers, if it is so many. Tried with std's `split`: the proof of a loop with that iterator beside N did not close.
+pub fn row<const N: usize>(line: &[u8]) -> Option<[u32; N]>
+    ensures { result ≡ Text·row N line.now }
 {
-    let mut i = at;
-    while i < s.len() {
-        if s[i] == c {
-            return i;
-        }
-        i += 1;
+    let mut out = [0u32; N];
+    let mut left = Some(line);
+    for n in &mut out {
+        let (word, rest) = cut(left?);
+        *n = number(word)?;
+        left = rest;
     }
-    i
-}
-
-// Whether the line is as many numbers as there is room for, which are then put there.
-pub fn row(line: &[u8], out: &mut [u32]) -> bool
-    ensures { row_of result out.new ≡ Text·row (length out.old) line.now }
-{
-    let mut at = 0;
-    let mut i = 0;
-    while i < out.len() {
-        let e = find(line, at, SPACE);
-        let Numeral::Is(n) = number(&line[at..e]) else {
-            return false;
-        };
-        out[i] = n;
-        i += 1;
-        if e == line.len() {
-            return i == out.len();
-        }
-        at = e + 1;
+    match left {
+        Some(_) => None,
+        None => Some(out),
     }
-    false
 }

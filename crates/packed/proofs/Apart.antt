@@ -1,6 +1,6 @@
 -- No two answers have one number at the C boundary, so nothing of an answer is lost on the way to C. Assumes nothing.
 use mathlib.Core.Path.{◌≡◌, refl, ap, ◌∙◌, sym}
-use mathlib.Core.Option.{Option, none, some}
+use Rattle.std.specs.Prelude.{Option, None, Some}
 use Prim.Native.Nat.{ℕ, ◌^◌, ◌≤◌, ◌<◌}
 use native.Mathlib.Omega.{arith}
 use lib.Dec.{eqb, lit≤}
@@ -8,8 +8,7 @@ use Rattle.state.specs.declared.State.{State}
 use Rattle.state.specs.declared.State.TheVariants.{Boot, Swap, Revert, DfuDetach}
 use Rattle.state.specs.Choice.{pick}
 use Rattle.state.specs.Magic.{state_number}
-use Rattle.rules.specs.declared.Answer.{Answer}
-use Rattle.rules.specs.Calls.{Report, reported}
+use Rattle.rules.specs.Calls.{Answer, Report, reported}
 use Rattle.rules.proofs.Unique.{answer_unique}
 use Rattle.packed.specs.Packed.{state_byte, joined, packed}
 
@@ -21,23 +20,23 @@ apart a b c x y z hb hc hy hz e = (omega arith, omega arith, omega arith)
 -- and the state of a byte
 byte_low : (s : Option State) → state_byte s ≤ 255
 unfolding state_byte state_number
-byte_low none = lit≤ tt
-byte_low (some Boot) = lit≤ tt
-byte_low (some Swap) = lit≤ tt
-byte_low (some Revert) = lit≤ tt
-byte_low (some DfuDetach) = lit≤ tt
+byte_low None = lit≤ tt
+byte_low (Some Boot) = lit≤ tt
+byte_low (Some Swap) = lit≤ tt
+byte_low (Some Revert) = lit≤ tt
+byte_low (Some DfuDetach) = lit≤ tt
 
 state_at : ℕ → Option State
 state_at n =
-    pick (eqb n 0) (some Boot) (pick (eqb n 1) (some Swap) (pick (eqb n 2) (some Revert) (pick (eqb n 3) (some DfuDetach) none)))
+    pick (eqb n 0) (Some Boot) (pick (eqb n 1) (Some Swap) (pick (eqb n 2) (Some Revert) (pick (eqb n 3) (Some DfuDetach) None)))
 
 state_back : (s : Option State) → state_at (state_byte s) ≡ s
 unfolding state_at state_byte state_number pick
-state_back none = refl
-state_back (some Boot) = refl
-state_back (some Swap) = refl
-state_back (some Revert) = refl
-state_back (some DfuDetach) = refl
+state_back None = refl
+state_back (Some Boot) = refl
+state_back (Some Swap) = refl
+state_back (Some Revert) = refl
+state_back (Some DfuDetach) = refl
 
 abbrev made : ℕ → Option State → ℕ → Report
 made n s c = record { number = n; state = s; count = c }

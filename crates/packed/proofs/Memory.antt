@@ -17,8 +17,8 @@ use Rattle.geometry.specs.Geometry.{cell}
 use Rattle.geometry.specs.Refusals.{most_length}
 use Rattle.geometry.proofs.Rows.{updater_admits}
 use Rattle.mem_flash.specs.Flash.{Area, Flash, Op, erase, write}
-use Rattle.rules.specs.declared.Sector.{Sector}
-use Rattle.rules.specs.declared.Sector.TheVariants.{None, At}
+use Rattle.rules.specs.FirmwareUpdater.{Sector}
+use Rattle.std.specs.Prelude.{None, Some}
 use Rattle.rules.specs.FirmwareUpdater.{room, Piece, pieces_from, pieces, remembers, pieces_ops, remembered_op, remembered, updater_call, write_firmware, memory}
 use Rattle.firmware_pieces.proofs.Ranges.{range_in}
 use Rattle.packed.specs.Packed.{no_sector, sector_of, last_number}
@@ -28,7 +28,7 @@ use Rattle.packed.specs.Packed.{no_sector, sector_of, last_number}
 -- the memory m became: itself, or a sector that is at most l
 pub data Remembers (l : ℕ) (m : Sector) : Sector → Type 0 where
   same : Remembers l m m
-  other : {s : ℕ} → s ≤ l → Remembers l m (At s)
+  other : {s : ℕ} → s ≤ l → Remembers l m (Some s)
 
 then : {l : ℕ} {m m₁ m₂ : Sector} → Remembers l m m₁ → Remembers l m₁ m₂ → Remembers l m m₂
 then same y = y
@@ -46,7 +46,7 @@ unfolding remembered remembered_op
 remembers_one zero ed m e = same
 remembers_one (suc k) ed m none = same
 remembers_one (suc k) ed m (erased {from = from} h e) =
-    then (other (let d = div-le_self from ed in omega arith)) (remembers_one k ed (At (from / ed)) e)
+    then (other (let d = div-le_self from ed in omega arith)) (remembers_one k ed (Some (from / ed)) e)
 remembers_one (suc k) ed m (written e) = remembers_one k ed m e
 
 -- ---- the erases of write_firmware
@@ -92,7 +92,7 @@ erases c ed m none = none
 erases c ed m (one {p} h s) =
     erases_pick (remembers m (p.at / ed))
     (erased (let d = div-add-mod' p.at ed in omega arith) none)
-    (written (erases c ed (At (p.at / ed)) s))
+    (written (erases c ed (Some (p.at / ed)) s))
 
 module _ (k : ℕ) (z : Sizes) (m : Sector) (offset : ℕ) (bytes : List ℕ) (f : Flash) where
   -- data that is not empty lies in DFU, and DFU is no longer than the longest area
@@ -124,7 +124,7 @@ pub last_sector : (n : ℕ) → n < 2 ^ 32 → last_number (sector_of n) ≡ n
 unfolding sector_of last_number pick no_sector
 last_sector n h = go _ refl
   where
-    go : (b : Bool) → eqb n no_sector ≡ b → last_number (pick b None (At n)) ≡ n
+    go : (b : Bool) → eqb n no_sector ≡ b → last_number (pick b None (Some n)) ≡ n
     go true e = sym (eqb-true _ _ e)
     go false e = omega arith
 

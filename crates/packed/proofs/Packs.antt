@@ -5,8 +5,7 @@ use Prim.Native.Nat.{ℕ}
 use lib.ListN.{length}
 use Rattle.geometry.specs.declared.Sizes.{Sizes}
 use Rattle.mem_flash.specs.Flash.{Flash}
-use Rattle.rules.specs.declared.Answer.{Answer}
-use Rattle.rules.specs.Calls.{Report, Call, reported, report, Did}
+use Rattle.rules.specs.Calls.{Answer, Report, Call, reported, report, Did}
 use Rattle.rules.specs.FirmwareUpdater.{read_dfu, read_out}
 use Rattle.packed.specs.Packed.{packed}
 use Rattle.packed.specs.Told.{Told, ToldRead}

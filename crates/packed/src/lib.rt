@@ -3,29 +3,26 @@
 // is lost.
 #![tactic(auto)]
 
-ghost use Rattle.std.specs.Prelude.{◌≡◌, ◌≤◌};
+ghost use Rattle.std.specs.Prelude.{Err, ◌≡◌, ◌≤◌};
 ghost use Rattle.state.specs.Magic.{state_number};
 ghost use Rattle.rules.specs.Calls.{reported};
-ghost use Rattle.packed.specs.Packed.{joined, packed, sector_of, last_number};
+ghost use Rattle.packed.specs.Packed.{state_byte, joined, packed, sector_of, last_number};
 
-use rules::{Answer, Sector};
+use rules::{Answer, Stop};
 use state::State;
 
 // In place of a state where the answer carries none.
 const NO_STATE: u32 = 255;
 
 // In place of a sector where the updater remembers none.
-pub const NO_SECTOR: u32 = 4294967295;
+pub const NO_SECTOR: u32 = u32::MAX;
 
+// The states stand in the order of their numbers.
+#[tactic(auto, unfolding(state::specs::Magic::state_number))]
 pub fn state_number(s: State) -> u32
     ensures { (result ≡ state_number s) × (result ≤ 3) }
 {
-    match s {
-        State::Boot => 0,
-        State::Swap => 1,
-        State::Revert => 2,
-        State::DfuDetach => 3,
-    }
+    s as u32
 }
 
 // Three numbers in one. The two bounds are what makes it fit 64 bits.
@@ -33,35 +30,55 @@ fn join(number: u32, state: u32, count: u32) -> u64
     requires { (number ≤ 15) × (state ≤ 255) }
     ensures { result ≡ joined number state count }
 {
-    number as u64 * 1099511627776 + state as u64 * 4294967296 + count as u64
+    number as u64 * 0x100_0000_0000 + state as u64 * 0x1_0000_0000 + count as u64
+}
+
+// A state, or what stands in its place.
+#[tactic(auto, unfolding(crate::specs::Packed::state_byte))]
+fn state_byte(state: Option<State>) -> u32
+    ensures value { result ≡ state_byte state }
+    ensures low { result ≤ 255 }
+{
+    match state {
+        Some(s) => state_number(s),
+        None => NO_STATE,
+    }
+}
+
+// Why a call was not done.
+fn pack_stop(stop: Stop) -> u64
+    ensures { result ≡ packed (reported (Err stop)) }
+{
+    match stop {
+        Stop::Refused(why) => join(why.number(), NO_STATE, 0),
+        Stop::Cut(n) => join(7, NO_STATE, n),
+    }
 }
 
 pub fn pack(answer: Answer) -> u64
     ensures { result ≡ packed (reported answer) }
 {
     match answer {
-        Answer::Found(s, n) => join(0, state_number(s), n),
-        Answer::Done(n) => join(0, NO_STATE, n),
-        Answer::Refused(why) => join(why.number(), NO_STATE, 0),
-        Answer::Cut(n) => join(7, NO_STATE, n),
+        Ok(done) => join(0, state_byte(done.state), done.count),
+        Err(stop) => pack_stop(stop),
     }
 }
 
-// A number that is no sector of the area is taken as it is: it equals no sector in use, so it counts as another one.
-pub fn sector(last: u32) -> Sector
+// C has one number for it, so no `From`. A number that is no sector of the area is taken as it is: it equals no sector in use, so it counts as another one.
+pub fn sector(last: u32) -> Option<usize>
     ensures { result ≡ sector_of last }
 {
     if last == NO_SECTOR {
-        return Sector::None;
+        return None;
     }
-    Sector::At(last as usize)
+    Some(last as usize)
 }
 
-pub fn last_number(memory: Sector) -> u32
+pub fn last_number(memory: Option<usize>) -> u32
     ensures { result ≡ last_number memory }
 {
     match memory {
-        Sector::None => NO_SECTOR,
-        Sector::At(s) => geometry::least(s, NO_SECTOR as usize) as u32,
+        None => NO_SECTOR,
+        Some(s) => s.min(NO_SECTOR as usize) as u32,
     }
 }

@@ -2,7 +2,7 @@
 -- image, so they answer alike (specs/Alike). The other calls have the very same operations. Assumes nothing.
 use mathlib.Core.Path.{◌≡◌, refl, sym, ap, ap₂, ◌∙◌, subst, subst₂}
 use mathlib.Core.Bool.{Bool, true, false}
-use mathlib.Core.Option.{Option, none, some}
+use Rattle.std.specs.Prelude.{Option, None, Some}
 use mathlib.Core.List.{List, [], ◌∷◌, ◌++◌}
 use Prim.Native.Nat.{ℕ, zero, suc, ◌+◌, ◌*◌, ◌/◌}
 use lib.ListN.{length, take, drop, length-take, length-drop}
@@ -230,8 +230,8 @@ module _ (g : Geometry) where
 report_of : ℕ → Option State → ℕ → ℕ → Report
 report_of r s n k =
     pick (eqb r 0)
-    (pick (leb n k) (record { number = 0; state = s; count = n }) (record { number = 7; state = none; count = k }))
-    (record { number = r; state = none; count = 0 })
+    (pick (leb n k) (record { number = 0; state = s; count = n }) (record { number = 7; state = None; count = k }))
+    (record { number = r; state = None; count = 0 })
 
 left_alike : (b : Bool) (f f' h h' : Flash) → Alike f h → Alike f' h' → Alike (pick b f f') (pick b h h')
 unfolding pick
@@ -273,7 +273,7 @@ module _ (f h : Flash) (e : Alike f h) where
   unfolding prepare_boot
   same_boot g =
       same_answers (prepare_boot g f) (prepare_boot g h) f h (λ i. boot_refusal g (e.active i) (e.dfu i) (length (e.state i)))
-      (ap (λ (st : List ℕ). some (read_state g.state st)) e.state) (alike_boot g f h e) e
+      (ap (λ (st : List ℕ). Some (read_state g.state st)) e.state) (alike_boot g f h e) e
 
   same_check : (z : Sizes) (n sum : ℕ) → take n f.dfu ≡ take n h.dfu
       → SameAnswers (check_and_mark_updated z n sum f) (check_and_mark_updated z n sum h) f h
@@ -288,26 +288,26 @@ module _ (f h : Flash) (e : Alike f h) where
         get_state_lem = λ z. of_state (get_state z);
         marks = λ s z. of_state (mark s z);
         updater_get_state_lem = λ z.
-            of_updater (looking z (λ _ _. false) (λ _ _. false) (λ st. some (read_state z.state st)) (λ _ _. []));
+            of_updater (looking z (λ _ _. false) (λ _ _. false) (λ st. Some (read_state z.state st)) (λ _ _. []));
         updater_mark_updated_lem = λ z.
-            of_updater (looking z (λ _ _. false) (λ _ _. false) (λ _. none)
+            of_updater (looking z (λ _ _. false) (λ _ _. false) (λ _. None)
             (λ _ st. set_magic_ops z.state (magic Swap) st));
         updater_mark_dfu_lem = λ z.
             of_updater
-            (looking z (λ _ st. pending z.state st) (λ _ _. false) (λ _. none)
+            (looking z (λ _ st. pending z.state st) (λ _ _. false) (λ _. None)
             (λ _ st. set_magic_ops z.state (magic DfuDetach) st));
         updater_mark_booted_lem = λ z.
-            of_updater (looking z (λ _ _. false) (λ _ _. false) (λ _. none)
+            of_updater (looking z (λ _ _. false) (λ _ _. false) (λ _. None)
             (λ _ st. set_magic_ops z.state (magic Boot) st));
         check_and_mark_updated_lem = same_check;
         read_dfu_lem = λ z offset n.
-            of_updater (looking z (λ _ _. false) (λ ld _. past_end ld offset n) (λ _. none) (λ _ _. []));
+            of_updater (looking z (λ _ _. false) (λ ld _. past_end ld offset n) (λ _. None) (λ _ _. []));
         write_firmware_lem = λ z m offset bytes.
             of_updater
-            (looking z (λ _ st. pending z.state st) (λ ld _. bad_range z.wd ld offset (length bytes)) (λ _. none)
+            (looking z (λ _ st. pending z.state st) (λ ld _. bad_range z.wd ld offset (length bytes)) (λ _. None)
             (λ _ _. pieces_ops (cell z.state) z.ed m (pieces z.ed offset bytes)));
         prepare_update_lem = λ z.
-            of_updater (looking z (λ _ st. pending z.state st) (λ _ _. false) (λ _. none) (λ ld _. erase_ops (cell z.state) z.ed dfu 0 ld));
+            of_updater (looking z (λ _ st. pending z.state st) (λ _ _. false) (λ _. None) (λ ld _. erase_ops (cell z.state) z.ed dfu 0 ld));
         remembers = λ k z m offset bytes. λ i.
             pick
             (eqb (updater_refusal z (e.dfu i) (length (e.state i)) (pending z.state (e.state i))

@@ -3,7 +3,7 @@
 -- number of them. Assumes nothing.
 use mathlib.Core.Path.{◌≡◌, sym, ap, ap₂, ◌∙◌, subst}
 use mathlib.Core.Bool.{Bool, true}
-use mathlib.Core.Option.{some}
+use Rattle.std.specs.Prelude.{Some}
 use mathlib.Core.Logic.{◌⊎◌, inl, inr, ◌≢◌}
 use mathlib.Core.List.{List, [], ◌∷◌, ◌++◌}
 use Prim.Native.Nat.{ℕ, zero, suc, ◌+◌, ◌-◌, ◌*◌, ◌≤◌, ◌<◌}
@@ -216,22 +216,22 @@ module _ (g : Geometry) (f : Flash) (s : Swapped g f) where
 
   -- then one that is not
   finish : (y : Flash) (j : ℕ) → Admits g y → y ≡ begun → length (boot_ops g y) ≤ j
-      → (answer g j y ≡ record { number = 0; state = some Swap; count = 1 + U }) × (ran g j y ≡ confirmed_whole g f)
+      → (answer g j y ≡ record { number = 0; state = Some Swap; count = 1 + U }) × (ran g j y ≡ confirmed_whole g f)
   finish y j a e long = (
     answer_done g j y a long
-        ∙ ap₂ (λ (r : State) (n : ℕ). record { number = 0; state = some r; count = n }) (reads_at y begun e ∙ begun_reads)
+        ∙ ap₂ (λ (r : State) (n : ℕ). record { number = 0; state = Some r; count = n }) (reads_at y begun e ∙ begun_reads)
         (ap (λ (x : Flash). length (boot_ops g x)) e ∙ begun_count),
     ran_after g j y a ∙ ap (λ (x : Flash). after j (boot_ops g x) x) e
         ∙ begun_whole j (omega (arith, long, ap (λ (x : Flash). length (boot_ops g x)) e)),
   )
 
   rest : (y : Flash) (j u : ℕ) → Admits g y → y ≡ confirmed_part g u f → 1 ≤ u → u ≤ U
-      → (answer g j y ≡ record { number = 0; state = some Boot; count = 0 }) × (ran g j y ≡ confirmed_part g u f)
+      → (answer g j y ≡ record { number = 0; state = Some Boot; count = 0 }) × (ran g j y ≡ confirmed_part g u f)
   rest y j u a e one most =
       let r : read_state g.state y.state ≡ Boot = reads_at y (confirmed_part g u f) e ∙ part_boot u one most in
       let n : length (boot_ops g y) ≡ 0 = ap length (wants_none g y r) in (
         answer_done g j y a (omega (arith, n))
-            ∙ ap₂ (λ (r : State) (n : ℕ). record { number = 0; state = some r; count = n }) r n,
+            ∙ ap₂ (λ (r : State) (n : ℕ). record { number = 0; state = Some r; count = n }) r n,
         ran_idle y a r j ∙ e,
       )
 

@@ -26,8 +26,8 @@ use Rattle.geometry.proofs.PageSize.{page_some}
 use Rattle.mem_flash.specs.Flash.{Area, active, dfu, state, Flash, Op, erase, write, apply_all}
 use Rattle.mem_flash.specs.Areas.{Image}
 use Rattle.mem_flash.proofs.Erases.{erase_count}
-use Rattle.rules.specs.declared.Sector.{Sector}
-use Rattle.rules.specs.declared.Sector.TheVariants.{At}
+use Rattle.rules.specs.FirmwareUpdater.{Sector}
+use Rattle.std.specs.Prelude.{Some}
 use Rattle.rules.specs.StateArea.{valid, invalidate_op}
 use Rattle.rules.specs.Steps.{Copy, unit_of, copy_ops, once_ops, copies_ops, swap_steps, revert_steps, page_count, swap_ops, revert_ops}
 use Rattle.rules.specs.Boot.{renew_ops, finish_ops, swap_or_revert_ops, boot_ops_in, boot_ops, prepare_boot}
@@ -188,9 +188,9 @@ writes_most c ed m (p ∷ ps) =
     let one : length first ≤ 1 = pick_count _ [] (erase c dfu (p.at / ed * ed) ed ∷ []) 1 zero-le (omega arith) in
     omega (
       arith,
-      length-append first (write c dfu p.at p.bytes ∷ pieces_ops c ed (At (p.at / ed)) ps),
+      length-append first (write c dfu p.at p.bytes ∷ pieces_ops c ed (Some (p.at / ed)) ps),
       writes_most c ed
-          (At (p.at / ed)) ps,
+          (Some (p.at / ed)) ps,
     )
 
 -- data that is not refused fits into the longest area

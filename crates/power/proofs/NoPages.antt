@@ -1,7 +1,7 @@
 -- No pages (specs/Power): `no_pages_lem`. A freshly marked flash is the swap table, and the revert begins with its last operations.
 -- Assumes nothing.
 use mathlib.Core.Path.{◌≡◌, refl, sym, ap, ap₂, ◌∙◌, subst₂}
-use mathlib.Core.Option.{some}
+use Rattle.std.specs.Prelude.{Some}
 use mathlib.Core.List.{List, [], ◌∷◌, ◌++◌}
 use Prim.Native.Nat.{ℕ, zero, suc, ◌+◌, ◌*◌}
 use native.Mathlib.Nat.{zero-mul}
@@ -83,7 +83,7 @@ module _ (g : Geometry) (f : Flash) (m : Marked g f) (none : page_count g f ≡ 
         swapped = already;
         at_once = λ k h.
             answer_done g k f m.admitted (rw count h)
-            ∙ ap₂ (λ (x : State) (c : ℕ). record { number = 0; state = some x; count = c }) (start_reads g f m).swap count;
+            ∙ ap₂ (λ (x : State) (c : ℕ). record { number = 0; state = Some x; count = c }) (start_reads g f m).swap count;
         reverts_active = λ ks k w. either g ks k f whole (part 0) (λ (x : Flash). x.active ≡ f.active) refl (λ u. refl) (turns_none ks k w);
         reverts_dfu = λ ks k w. either g ks k f whole (part 0) (λ (x : Flash). x.dfu ≡ f.dfu) refl (λ u. refl) (turns_none ks k w);
         reverts = turns_none;

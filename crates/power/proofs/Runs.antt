@@ -2,7 +2,7 @@
 -- run keeps, with so much left to do, is kept by all of them, and what is left falls by one a run if each budget pays the price.
 -- Serves `power`, `settles` and `confirmed`. Assumes nothing.
 use mathlib.Core.Path.{◌≡◌, sym, subst, ap, ap₂, ◌∙◌}
-use mathlib.Core.Option.{some}
+use Rattle.std.specs.Prelude.{Some}
 use mathlib.Core.List.{List, [], ◌∷◌}
 use Prim.Native.Nat.{ℕ, ◌+◌, ◌≤◌, ◌<◌}
 use native.Mathlib.Nat.{lt_of_not-le}
@@ -58,7 +58,7 @@ module _ (g : Geometry) (k : ℕ) (f : Flash) (a : Admits g f) where
       go (no h) = absurd (n (short_cut (lt_of_not-le h)))
 
   pub answer_done : length (boot_ops g f) ≤ k
-      → answer g k f ≡ record { number = 0; state = some (read_state g.state f.state); count = length (boot_ops g f) }
+      → answer g k f ≡ record { number = 0; state = Some (read_state g.state f.state); count = length (boot_ops g f) }
   unfolding answer prepare_boot
   answer_done h = report_done (prepare_boot g f) k a h
 
@@ -72,7 +72,7 @@ module _ {g : Geometry} {ks : List ℕ} {k : ℕ} {f : Flash} (a : Admits g (run
       let r = answer_done g k (runs g ks f) a long in
       record {
         number = ap (λ (t : Report). t.number) r;
-        state = ap (λ (t : Report). t.state) r ∙ ap (λ (x : State). some x) e;
+        state = ap (λ (t : Report). t.state) r ∙ ap (λ (x : State). Some x) e;
         flash = ran_after g k (runs g ks f) a ∙ d;
       }
 
@@ -83,7 +83,7 @@ module _ {g : Geometry} {ks : List ℕ} {k : ℕ} {f : Flash} (a : Admits g (run
         reached = e;
         answers =
             answer_done g k (runs g ks f) a long
-            ∙ ap₂ (λ (s : State) (c : ℕ). record { number = 0; state = some s; count = c })
+            ∙ ap₂ (λ (s : State) (c : ℕ). record { number = 0; state = Some s; count = c })
             (ap (λ (x : Flash). read_state g.state x.state) e ∙ boot) (ap length n);
         flash =
             ran_after g k (runs g ks f) a ∙ ap (λ (os : List Op). after k os (runs g ks f)) n ∙ after_none k (runs g ks f) ∙ e;

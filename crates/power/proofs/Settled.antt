@@ -3,7 +3,7 @@
 -- nothing.
 use mathlib.Core.Path.{◌≡◌, refl, sym, ap, ◌∙◌, subst}
 use mathlib.Core.Bool.{Bool, true, false}
-use mathlib.Core.Option.{some}
+use Rattle.std.specs.Prelude.{Some}
 use mathlib.Core.Logic.{◌⊎◌, inl, inr}
 use mathlib.Core.List.{List, [], ◌∷◌, ◌++◌}
 use Prim.Native.Nat.{ℕ, suc, ◌+◌, ◌*◌, ◌/◌, ◌≤◌, ◌<◌, zero-le}
@@ -171,7 +171,7 @@ module _ (g : Geometry) (f : Flash) (a : Admits g f) where
       }
     where
       idle : (k : ℕ) → answer g k f
-          ≡ record { number = 0; state = some (read_state g.state f.state); count = length (boot_ops g f) }
+          ≡ record { number = 0; state = Some (read_state g.state f.state); count = length (boot_ops g f) }
       idle k = answer_done g k f a (rw e zero-le)
 
   -- a run that is not cut does all

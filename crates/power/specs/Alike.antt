@@ -8,7 +8,7 @@ use Rattle.geometry.specs.declared.StateSizes.{StateSizes}
 use Rattle.geometry.specs.declared.Geometry.{Geometry}
 use Rattle.geometry.specs.declared.Sizes.{Sizes}
 use Rattle.mem_flash.specs.Flash.{Flash, Supply}
-use Rattle.rules.specs.declared.Sector.{Sector}
+use Rattle.rules.specs.FirmwareUpdater.{Sector}
 use Rattle.rules.specs.Calls.{Call, report, left}
 use Rattle.rules.specs.Boot.{prepare_boot, get_state}
 use Rattle.rules.specs.FirmwareState.{mark}

@@ -2,7 +2,7 @@
 -- invalidation, and any cuts in the boots after it, change no image and leave no Revert magic. Proved in proofs/Confirmed. Assumes
 -- nothing.
 use Rattle.std.specs.Prelude.{◌≡◌, List, [], ◌∷◌, ℕ, ◌+◌, ◌-◌, ◌*◌, ◌≤◌, length}
-use Rattle.std.proofs.Math.Option.{some}
+use Rattle.std.specs.Prelude.{Some}
 use Rattle.state.specs.declared.State.TheVariants.{Boot, Swap, Revert}
 use Rattle.geometry.specs.declared.Geometry.{Geometry}
 use Rattle.geometry.specs.declared.Sizes.{Sizes}
@@ -61,7 +61,7 @@ pub record Confirms (g : Geometry) (f : Flash) (u : ℕ) (x : Flash) : Type 0 wh
   pub never : (ks : List Supply) → read_state g.state (runs g ks x).state ≡ Revert → ⊥
   -- the first boot that is not cut erases the state area and writes the Boot magic, where no unit was erased before it
   pub finishes : (ks : List Supply) (j : Supply) → FirstWhole g ks j x → units_erased u ks ≡ 0
-      → (answer g j (runs g ks x) ≡ record { number = 0; state = some Swap; count = 1 + state_units g f })
+      → (answer g j (runs g ks x) ≡ record { number = 0; state = Some Swap; count = 1 + state_units g f })
       × (ran g j (runs g ks x) ≡ confirmed_whole g f)
   -- else it reads Boot, and does nothing
   pub rests : (ks : List Supply) (j : Supply) → FirstWhole g ks j x → 1 ≤ units_erased u ks → Rests g ks j x (confirmed_part g (units_erased u ks) f)

@@ -1,14 +1,14 @@
 -- Document 01, "A call has a budget K" and "When a call says no": what holds of every call under every budget, and how many
 -- operations the calls do. Proved in proofs/Cuts and proofs/Counts. Assumes nothing.
 use Rattle.std.specs.Prelude.{◌≡◌, List, ℕ, ◌+◌, ◌*◌, ◌≤◌, ◌<◌, length}
-use Rattle.std.proofs.Math.Option.{none}
+use Rattle.std.specs.Prelude.{None}
 use Rattle.state.specs.declared.State.{State}
 use Rattle.geometry.specs.declared.StateSizes.{StateSizes}
 use Rattle.geometry.specs.declared.Geometry.{Geometry}
 use Rattle.geometry.specs.declared.Sizes.{Sizes}
 use Rattle.geometry.specs.Refusals.{most_length}
 use Rattle.mem_flash.specs.Flash.{Flash, apply_all, after, Supply}
-use Rattle.rules.specs.declared.Sector.{Sector}
+use Rattle.rules.specs.FirmwareUpdater.{Sector}
 use Rattle.rules.specs.Calls.{Call, report, left}
 use Rattle.rules.specs.Boot.{prepare_boot, get_state}
 use Rattle.rules.specs.FirmwareState.{mark}
@@ -30,7 +30,7 @@ pub record Lawful (c : Call) : Type 0 where
   pub count : (k : Supply) → (report c k).count ≤ k
   -- a refusal changes nothing, carries no state and counts 0
   pub refused : (k : Supply) (f : Flash) → 0 < c.refusal
-      → (report c k ≡ record { number = c.refusal; state = none; count = 0 }) × (left c k f ≡ f)
+      → (report c k ≡ record { number = c.refusal; state = None; count = 0 }) × (left c k f ≡ f)
 
 -- every call of the crate
 pub record EveryCall : Type 0 where

@@ -2,7 +2,7 @@
 -- `rules`, a run is a call of prepare_boot with a budget, and no step is run here. Proved in proofs/Proved, and for N = 0 in
 -- proofs/NoPages. Assumes nothing.
 use Rattle.std.specs.Prelude.{◌≡◌, ◌⊎◌, List, [], ◌∷◌, ℕ, ◌+◌, ◌-◌, ◌*◌, ◌≤◌, ◌<◌, length}
-use Rattle.std.proofs.Math.Option.{some}
+use Rattle.std.specs.Prelude.{Some}
 use Rattle.state.specs.declared.State.{State}
 use Rattle.state.specs.declared.State.TheVariants.{Boot, Swap, Revert}
 use Rattle.geometry.specs.declared.Geometry.{Geometry}
@@ -67,7 +67,7 @@ pub record FirstWhole (g : Geometry) (ks : List Supply) (k : Supply) (f : Flash)
 -- that next run is done with the state s, and leaves the flash h
 pub record Ends (g : Geometry) (ks : List Supply) (k : Supply) (f : Flash) (s : State) (h : Flash) : Type 0 where
   pub number : (answer g k (runs g ks f)).number ≡ 0
-  pub state : (answer g k (runs g ks f)).state ≡ some s
+  pub state : (answer g k (runs g ks f)).state ≡ Some s
   pub flash : ran g k (runs g ks f) ≡ h
 
 -- every budget is n or more, and every budget is below n
@@ -94,7 +94,7 @@ InErase g ks f = (r : ℕ) × (1 ≤ r) × (r ≤ state_units g f) × Short r g 
 -- the cut runs have reached the flash h, and the next one answers Boot with no operation
 pub record Rests (g : Geometry) (ks : List Supply) (k : Supply) (f h : Flash) : Type 0 where
   pub reached : runs g ks f ≡ h
-  pub answers : answer g k (runs g ks f) ≡ record { number = 0; state = some Boot; count = 0 }
+  pub answers : answer g k (runs g ks f) ≡ record { number = 0; state = Some Boot; count = 0 }
   pub flash : ran g k (runs g ks f) ≡ h
 
 -- the first run that is not cut, of a revert that is begun at the flash f: exactly one of two. The last cut fell outside the state's
@@ -151,7 +151,7 @@ restated st f = record { active = f.active; dfu = f.dfu; state = st }
 -- a freshly marked flash is the swap table; so the revert begins at once, with its last operations, and touches no image
 pub record NoPages (g : Geometry) (f : Flash) : Type 0 where
   pub swapped : swap_table g f ≡ f
-  pub at_once : (k : Supply) → 2 + state_units g f ≤ count k → answer g k f ≡ record { number = 0; state = some Swap; count = 2 + state_units g f }
+  pub at_once : (k : Supply) → 2 + state_units g f ≤ count k → answer g k f ≡ record { number = 0; state = Some Swap; count = 2 + state_units g f }
   pub reverts_active : (ks : List Supply) (k : Supply) → FirstWhole g ks k f → (ran g k (runs g ks f)).active ≡ f.active
   pub reverts_dfu : (ks : List Supply) (k : Supply) → FirstWhole g ks k f → (ran g k (runs g ks f)).dfu ≡ f.dfu
   pub reverts : (ks : List Supply) (k : Supply) → FirstWhole g ks k f

@@ -1,7 +1,7 @@
 -- Demand 3 of the boots made (specs/Cycles): by the theorem `power` alone. Assumes nothing.
 use mathlib.Core.Path.{◌≡◌, ap, ◌∙◌, subst}
 use mathlib.Core.Logic.{◌⊎◌, inl, inr}
-use mathlib.Core.Option.{some}
+use Rattle.std.specs.Prelude.{Some}
 use mathlib.Core.List.{List, [], ◌∷◌}
 use Prim.Native.Nat.{ℕ, zero, suc, ◌+◌, ◌-◌, ◌*◌, ◌/◌, ◌≤◌, ◌<◌}
 use native.Mathlib.Nat.{div-mul-le_self, mul-le-mul_right}
@@ -15,9 +15,8 @@ use Rattle.geometry.specs.Geometry.{pages, words}
 use Rattle.geometry.specs.Refusals.{boot_words}
 use Rattle.geometry.proofs.Rows.{admitted}
 use Rattle.mem_flash.specs.Flash.{Flash}
-use Rattle.rules.specs.declared.Answer.{Answer}
 use Rattle.rules.specs.Steps.{page_count}
-use Rattle.rules.specs.Calls.{Report, reported}
+use Rattle.rules.specs.Calls.{Answer, Report, reported}
 use Rattle.rules.specs.Power.{swap_marks, swap_table, reverted, reverted_part, state_units, dearer_cost}
 use Rattle.power.specs.Power.{Ready, AllCut, AllAtLeast, ByLastCut}
 use Rattle.power.proofs.Proved.{power}
@@ -70,8 +69,8 @@ module _ (g : Geometry) (f : Flash) (ready : Ready g f) where
 
   module _ {js : List ℕ} {f' : Flash} {r : Answer} (l : First g js (swap_table g f) f' r) where
     ended : ByLastCut g js l.last (swap_table g f) (reverted g f) (λ u. reverted_part g u f)
-        → ((f'.state ≡ (reverted g f).state) × ((reported r).state ≡ some Swap))
-        ⊎ ((u : ℕ) × (1 ≤ u) × (u ≤ state_units g f) × (f'.state ≡ (reverted_part g u f).state) × ((reported r).state ≡ some Boot))
+        → ((f'.state ≡ (reverted g f).state) × ((reported r).state ≡ Some Swap))
+        ⊎ ((u : ℕ) × (1 ≤ u) × (u ≤ state_units g f) × (f'.state ≡ (reverted_part g u f).state) × ((reported r).state ≡ Some Boot))
     ended (inl e) =
         inl (ap (λ (x : Flash). x.state) (l.leaves ∙ e.1.flash), ap (λ (t : Report). t.state) l.told ∙ e.1.state)
     ended (inr e) =

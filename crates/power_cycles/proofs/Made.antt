@@ -10,9 +10,9 @@ use Rattle.geometry.specs.declared.Geometry.{Geometry}
 use Rattle.geometry.specs.declared.Refusal.TheVariants.{Limit, Page, Area, StateArea, BadState, Range, Checksum}
 use Rattle.geometry.specs.Refusals.{number}
 use Rattle.mem_flash.specs.Flash.{Flash}
-use Rattle.rules.specs.declared.Answer.{Answer}
-use Rattle.rules.specs.declared.Answer.TheVariants.{Found, Done, Refused, Cut as CutAfter}
-use Rattle.rules.specs.Calls.{Report, reported, Did}
+use Rattle.std.specs.Prelude.{Ok, Err}
+use Rattle.rules.specs.declared.Stop.TheVariants.{Refused, Cut as CutAfter}
+use Rattle.rules.specs.Calls.{Answer, Report, reported, Did}
 use Rattle.rules.specs.Boot.{prepare_boot}
 use Rattle.power.specs.Power.{answer, ran, Cut, runs, AllCut, FirstWhole}
 use Rattle.power_cycles.specs.Cycles.{Uncut, last_answer, Made}
@@ -48,7 +48,7 @@ pub record Last (g : Geometry) (ks : List ℕ) (f f' : Flash) (n : ℕ) (r : Ans
 
 module _ {g : Geometry} {ks : List ℕ} {f f' : Flash} {r : Answer} where
   -- no boot was made
-  pub made_none : Made g ks f f' 0 r → reported r ≡ reported (CutAfter 0)
+  pub made_none : Made g ks f f' 0 r → reported r ≡ reported (Err (CutAfter 0))
   unfolding last_answer
   made_none m = m.told
 
@@ -106,20 +106,19 @@ found {g} {ks} {f} {f'} {n = suc n} {r = r} m w =
 -- ---- the code
 
 -- an answer that is no cut
-pub whole : (r : Answer) → ((k : ℕ) → r ≡ CutAfter k → ⊥) → Uncut r
+pub whole : (r : Answer) → ((k : ℕ) → r ≡ Err (CutAfter k) → ⊥) → Uncut r
 unfolding reported number
-whole (Found s n) o e = omega arith
-whole (Done n) o e = omega arith
-whole (Refused Limit) o e = omega arith
-whole (Refused Page) o e = omega arith
-whole (Refused Area) o e = omega arith
-whole (Refused StateArea) o e = omega arith
-whole (Refused BadState) o e = omega arith
-whole (Refused Range) o e = omega arith
-whole (Refused Checksum) o e = omega arith
-whole (CutAfter n) o e = o n refl
+whole (Ok d) o e = omega arith
+whole (Err (Refused Limit)) o e = omega arith
+whole (Err (Refused Page)) o e = omega arith
+whole (Err (Refused Area)) o e = omega arith
+whole (Err (Refused StateArea)) o e = omega arith
+whole (Err (Refused BadState)) o e = omega arith
+whole (Err (Refused Range)) o e = omega arith
+whole (Err (Refused Checksum)) o e = omega arith
+whole (Err (CutAfter n)) o e = o n refl
 
-pub cut_number : {r : Answer} {n : ℕ} → r ≡ CutAfter n → (reported r).number ≡ 7
+pub cut_number : {r : Answer} {n : ℕ} → r ≡ Err (CutAfter n) → (reported r).number ≡ 7
 unfolding reported
 cut_number e = ap (λ (x : Answer). (reported x).number) e
 
@@ -132,7 +131,7 @@ pub record Cutting (g : Geometry) (ks : List ℕ) (f h : Flash) (n : ℕ) (q : A
   pub state : length h.state ≡ length f.state
 
 -- before the first boot
-pub cutting_none : (g : Geometry) (ks : List ℕ) (f : Flash) → Cutting g ks f f 0 (CutAfter 0)
+pub cutting_none : (g : Geometry) (ks : List ℕ) (f : Flash) → Cutting g ks f f 0 (Err (CutAfter 0))
 unfolding last_answer runs AllCut reported
 cutting_none g ks f =
     record {

@@ -10,8 +10,7 @@ use lib.ListN.{length, take, get_or}
 use Rattle.state.specs.OneResult.{OneResult}
 use Rattle.geometry.specs.declared.Geometry.{Geometry}
 use Rattle.mem_flash.specs.Flash.{Flash}
-use Rattle.rules.specs.declared.Answer.{Answer}
-use Rattle.rules.specs.Calls.{Report, reported}
+use Rattle.rules.specs.Calls.{Answer, Report, reported}
 use Rattle.rules.proofs.Unique.{answer_unique}
 use Rattle.power.specs.Power.{ran, Cut, runs, AllCut}
 use Rattle.power_cycles.specs.Cycles.{Uncut, last_answer, Made, Cycles}

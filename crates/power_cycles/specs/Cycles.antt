@@ -1,15 +1,13 @@
 -- Boots one after the other, and demand 3 of the request as 02 No. 1, 3 and 5 left it, as a contract: `boot_until_whole`, which
 -- calls prepare_boot with one budget after the other, ensures `Cycles` of every input. The tables are those of the crate `rules`, and
 -- `runs` and `answer` (crate `power`) say what prepare_boot does, run after run. Assumes nothing.
-use Rattle.std.specs.Prelude.{◌≡◌, ◌⊎◌, List, [], ◌∷◌, ℕ, ◌+◌, ◌-◌, ◌*◌, ◌≤◌, length, take}
-use Rattle.std.proofs.Math.Option.{some}
+use Rattle.std.specs.Prelude.{Err, Some, ◌≡◌, ◌⊎◌, List, [], ◌∷◌, ℕ, ◌+◌, ◌-◌, ◌*◌, ◌≤◌, length, take}
 use Rattle.state.specs.declared.State.TheVariants.{Boot, Swap}
 use Rattle.geometry.specs.declared.Geometry.{Geometry}
 use Rattle.mem_flash.specs.Flash.{Flash}
-use Rattle.rules.specs.declared.Answer.{Answer}
-use Rattle.rules.specs.declared.Answer.TheVariants.{Cut}
+use Rattle.rules.specs.declared.Stop.TheVariants.{Cut}
 use Rattle.rules.specs.Steps.{page_count}
-use Rattle.rules.specs.Calls.{Report, reported}
+use Rattle.rules.specs.Calls.{Answer, Report, reported}
 use Rattle.rules.specs.Power.{swap_table, reverted, reverted_part, state_units, dearer_cost}
 use Rattle.power.specs.Power.{Ready, answer, ran, runs, AllCut, AllAtLeast}
 
@@ -21,7 +19,7 @@ Uncut r = (reported r).number ≡ 7 → ⊥
 
 -- what the last of these boots answers; with none, a cut after no operation
 unfoldable pub last_answer : Geometry → List ℕ → Flash → Report
-last_answer g [] f = reported (Cut 0)
+last_answer g [] f = reported (Err (Cut 0))
 last_answer g (k ∷ []) f = answer g k f
 last_answer g (k ∷ j ∷ ks) f = last_answer g (j ∷ ks) (ran g k f)
 
@@ -44,8 +42,8 @@ pub record SwapOf (g : Geometry) (f₀ f : Flash) : Type 0 where
 pub record Reverted (g : Geometry) (f₀ f' : Flash) (r : Answer) : Type 0 where
   pub active : f'.active ≡ f₀.active
   pub dfu : f'.dfu ≡ (reverted g f₀).dfu
-  pub state : ((f'.state ≡ (reverted g f₀).state) × ((reported r).state ≡ some Swap))
-      ⊎ ((u : ℕ) × (1 ≤ u) × (u ≤ state_units g f₀) × (f'.state ≡ (reverted_part g u f₀).state) × ((reported r).state ≡ some Boot))
+  pub state : ((f'.state ≡ (reverted g f₀).state) × ((reported r).state ≡ Some Swap))
+      ⊎ ((u : ℕ) × (1 ≤ u) × (u ≤ state_units g f₀) × (f'.state ≡ (reverted_part g u f₀).state) × ((reported r).state ≡ Some Boot))
 
 -- of n boots the last, with the answer r, was at latest the m-th; and it was not cut, if there were budgets for m boots
 pub record AtLatest (m : ℕ) (ks : List ℕ) (n : ℕ) (r : Answer) : Type 0 where
@@ -58,7 +56,7 @@ pub record Cycles (g : Geometry) (ks : List ℕ) (f f' : Flash) (n : ℕ) (r : A
   pub made : Made g ks f f' n r
   pub stops : Uncut r ⊎ (n ≡ length ks)
   -- cut anywhere, any number of times: the first boot that is not cut leaves exactly the swap table, and answers Swap
-  pub swaps : Ready g f → Uncut r → (f' ≡ swap_table g f) × ((reported r).state ≡ some Swap)
+  pub swaps : Ready g f → Uncut r → (f' ≡ swap_table g f) × ((reported r).state ≡ Some Swap)
   -- from there the same holds of the revert's two images
   pub reverts : (f₀ : Flash) → SwapOf g f₀ f → Uncut r → Reverted g f₀ f' r
   -- if every boot has at least the dearer step's cost, that boot is at latest the 2N-th for the swap

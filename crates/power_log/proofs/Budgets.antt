@@ -10,8 +10,8 @@ use borrow.Author.Tests.{le-leb, lt-leb}
 use Rattle.state.specs.Choice.{pick}
 use Rattle.geometry.specs.declared.Geometry.{Geometry}
 use Rattle.rules.specs.Steps.{Copy}
-use Rattle.log_steps.specs.declared.Entry.{Entry}
-use Rattle.log_steps.specs.declared.Step.{Step}
+use Rattle.log_steps.specs.Entries.{Entry}
+use Rattle.log_steps.specs.Steps.{Step}
 use Rattle.log_steps.specs.Steps.{step_of, nth, size}
 
 -- n entries of a step from entry i on

@@ -2,18 +2,19 @@
 use mathlib.Core.Path.{◌≡◌, refl, sym, ap, ap₂, ◌∙◌, subst}
 use mathlib.Core.Bool.{Bool, true, false}
 use mathlib.Core.List.{List, map}
-use Prim.Native.Nat.{ℕ, ◌+◌, ◌-◌, ◌*◌, ◌/◌, ◌%◌, ◌≤◌, ◌<◌}
+use Prim.Native.Nat.{ℕ, ◌+◌, ◌*◌, ◌/◌, ◌%◌, ◌≤◌, ◌<◌}
 use native.Mathlib.Nat.{div-mul-le_self, mul-le-mul_right}
 use native.Mathlib.Decide.{ℕ_discrete}
 use native.Mathlib.Omega.{arith}
 use lib.ListN.{length}
+use Rattle.std.specs.Simd.{first_chunks}
 use borrow.Author.Tests.{eq-eqb, ne_eqb, lt-ltb, le-ltb}
 use Rattle.state.specs.Choice.{pick}
 use Rattle.geometry.specs.declared.Geometry.{Geometry}
 use Rattle.geometry.specs.declared.Refusal.{Refusal}
 use Rattle.geometry.specs.declared.Refusal.TheVariants.{Range}
-use Rattle.geometry.specs.declared.Verdict.{Verdict}
-use Rattle.geometry.specs.declared.Verdict.TheVariants as verdicts
+use Rattle.geometry.specs.Refusals.{Verdict}
+use Rattle.std.specs.Prelude.{Ok, Err}
 use Rattle.geometry.specs.Geometry.{page, pages, words}
 use Rattle.geometry.specs.Refusals.{number, verdict, boot_refusal, boot_words, first_row, most_length}
 use Rattle.geometry.specs.Admitted.{Admitted}
@@ -27,16 +28,15 @@ use Rattle.way.proofs.Steps.{Whole, whole_page}
 use Rattle.way.proofs.Way.{close_refl}
 use Rattle.power.specs.Power.{Marked}
 use Rattle.power.proofs.Start.{state_bytes, way_there}
-use Rattle.log_steps.specs.declared.Entry.{Entry}
-use Rattle.log_steps.specs.Entries.{entry_of, written}
-use Rattle.log_steps.specs.Reader.{entries_from, reads, Fits}
+use Rattle.log_steps.specs.Entries.{Entry, entry_of, written, entries}
+use Rattle.log_steps.specs.Reader.{reads, Fits}
 use Rattle.power_log.specs.declared.LogAnswer.TheVariants.{Yes, No, Refused}
 use Rattle.power_log.specs.Log.{joined, InSwap, Start, Makes, answer_number, answer_yes, most_entries, log_refusal, Judged}
 use Rattle.power_log.proofs.Budgets.{StepsLeft}
 use Rattle.power_log.proofs.Readable.{AllTold, made_read, read_made}
 use Rattle.power_log.proofs.StepLogs.{swap_told}
 use Rattle.power_log.proofs.Stands.{Stand, start, RunsBy, runs_by, swap_left}
-use Rattle.power_log.proofs.Written.{written_length, entries_written, written_once}
+use Rattle.power_log.proofs.Written.{written_length, rows_written, written_once}
 
 -- ---- from a freshly marked flash
 
@@ -80,26 +80,27 @@ module _ (g : Geometry) (f : Flash) (m : Marked g f) where
 
 -- ---- a log of numbers
 
-module _ (g : Geometry) (la ld ls : ℕ) (log : List ℕ) (even : length log % 4 ≡ 0) where
-  abbrev entries : List Entry
-  entries = entries_from log 0 (length log / 4)
+-- the entries that its numbers tell
+abbrev pub told : List ℕ → List Entry
+told log = entries (first_chunks 4 (length log / 4) log)
 
-  back : written entries ≡ log
-  back = entries_written log 0 (length log / 4) (omega (arith, even))
+module _ (g : Geometry) (la ld ls : ℕ) (log : List ℕ) (even : length log % 4 ≡ 0) where
+  back : written (told log) ≡ log
+  back = rows_written (length log / 4) log (omega (arith, even))
 
   module _ (f : Flash) (s : Start g la ld ls f) where
     count : pages g la ≡ page_count g f
     unfolding page_count
     count = ap (pages g) (sym s.active)
 
-    pub yes_makes : reads g (swap_from (pages g la) 0) entries ≡ true → Makes g log f
+    pub yes_makes : reads g (swap_from (pages g la) 0) (told log) ≡ true → Makes g log f
     yes_makes r =
         subst (λ (l : List ℕ). Makes g l f) back
-        (read_makes g f s.marked entries (ap (λ (n : ℕ). reads g (swap_from n 0) entries) (sym count) ∙ r))
+        (read_makes g f s.marked (told log) (ap (λ (n : ℕ). reads g (swap_from n 0) (told log)) (sym count) ∙ r))
 
-    pub makes_yes : Makes g log f → reads g (swap_from (pages g la) 0) entries ≡ true
+    pub makes_yes : Makes g log f → reads g (swap_from (pages g la) 0) (told log) ≡ true
     makes_yes k =
-        let e : map entry_of (joined g k.budgets f) ≡ entries = written_once _ _ (k.leaves ∙ sym back) in
+        let e : map entry_of (joined g k.budgets f) ≡ told log = written_once _ _ (k.leaves ∙ sym back) in
         ap₂ (λ (n : ℕ) (es : List Entry). reads g (swap_from n 0) es) count (sym e) ∙ makes_read g f s.marked k.budgets k.in_swap
 
 -- a log that is not whole entries is none
@@ -146,13 +147,13 @@ module _ (g : Geometry) (la ld ls : ℕ) (log : List ℕ) where
         complete = λ z. absurd (omega (arith, z, e, number_some why));
       }
 
-  pub judged_boot : (v : Verdict) (why : Refusal) → verdict v ≡ boot_refusal g la ld ls → v ≡ verdicts.Refused why → Judged g la ld ls log (Refused why)
+  pub judged_boot : (v : Verdict) (why : Refusal) → verdict v ≡ boot_refusal g la ld ls → v ≡ Err why → Judged g la ld ls log (Refused why)
   unfolding verdict
   judged_boot v why e d =
       let n : number why ≡ boot_refusal g la ld ls = sym (ap verdict d) ∙ e in
       judged_refused why (n ∙ refused_boot (λ z. omega (arith, n, z, number_some why)))
 
-  module _ (v : Verdict) (e : verdict v ≡ boot_refusal g la ld ls) (d : v ≡ verdicts.Admitted) where
+  module _ (v : Verdict) (e : verdict v ≡ boot_refusal g la ld ls) (d : v ≡ Ok tt) where
     pub none : boot_refusal g la ld ls ≡ 0
     unfolding verdict
     none = sym e ∙ ap verdict d
@@ -172,7 +173,7 @@ module _ (g : Geometry) (la ld ls : ℕ) (log : List ℕ) where
           }
 
       module _ (even : length log % 4 ≡ 0) where
-        pub judged_yes : reads g (swap_from (pages g la) 0) (entries_from log 0 (length log / 4)) ≡ true → Judged g la ld ls log Yes
+        pub judged_yes : reads g (swap_from (pages g la) 0) (told log) ≡ true → Judged g la ld ls log Yes
         unfolding answer_number answer_yes
         judged_yes r =
             record {
@@ -181,7 +182,7 @@ module _ (g : Geometry) (la ld ls : ℕ) (log : List ℕ) where
               complete = λ z f s k. refl;
             }
 
-        pub judged_no : reads g (swap_from (pages g la) 0) (entries_from log 0 (length log / 4)) ≡ false → Judged g la ld ls log No
+        pub judged_no : reads g (swap_from (pages g la) 0) (told log) ≡ false → Judged g la ld ls log No
         unfolding answer_number answer_yes
         judged_no r =
             record {
@@ -205,10 +206,12 @@ reader_fits g la ld ls {p} e d =
           omega (arith, mul-le-mul_right g.state.ws m, div-mul-le_self ls g.state.ws, a.state_most);
     }
 
--- what they tell, with N and the entries as the definitions have them
-pub reader_tells : (g : Geometry) (la : ℕ) (log : List ℕ) {p : ℕ} {r b : Bool} → p ≡ page g
-    → r ≡ reads g (swap_from (la / p) 0) (entries_from log 0 (length log / 4 - 0)) → r ≡ b
-    → reads g (swap_from (pages g la) 0) (entries_from log 0 (length log / 4)) ≡ b
+-- what they tell, with N as the definitions have it
+pub reader_tells : (g : Geometry) (la : ℕ) (log : List ℕ) (rows : List (List ℕ)) {p : ℕ} {r b : Bool} → rows ≡ first_chunks 4 (length log / 4) log
+    → p ≡ page g → r ≡ reads g (swap_from (la / p) 0) (entries rows) → r ≡ b → reads g (swap_from (pages g la) 0) (told log) ≡ b
 unfolding pages
-reader_tells g la log d e q =
-    ap₂ (λ (n m : ℕ). reads g (swap_from (la / n) 0) (entries_from log 0 m)) (sym d) (omega arith) ∙ sym e ∙ q
+reader_tells g la log rows c d e q =
+    ap₂ (λ (n : ℕ) (l : List (List ℕ)). reads g (swap_from (la / n) 0) (entries l)) (sym d) (sym c) ∙ sym e ∙ q
+
+-- what the judge's sizes are shown by
+pub ruleset sizes = (admitted, page_some, none, reader_fits)

@@ -16,11 +16,11 @@ use borrow.Author.Tests.{eq-eqb, eqb-true}
 use Rattle.state.specs.Choice.{pick}
 use Rattle.geometry.specs.declared.Geometry.{Geometry}
 use Rattle.rules.specs.Steps.{Copy}
-use Rattle.log_steps.specs.declared.Entry.{Entry}
-use Rattle.log_steps.specs.declared.Step.{Step}
+use Rattle.log_steps.specs.Entries.{Entry}
+use Rattle.log_steps.specs.Steps.{Step}
 use Rattle.log_steps.specs.Entries.{entry}
 use Rattle.log_steps.specs.Steps.{step_of, nth, size}
-use Rattle.log_steps.specs.Reader.{same, tried, Reading, wrong, marked, read_step, behind, reads}
+use Rattle.log_steps.specs.Reader.{same, Reading, wrong, marked, read_step, behind, reads}
 use Rattle.log_steps.proofs.Reading.{tried_on, tried_again, tried_no, turn_wrong, turn_marked, turn_on}
 use Rattle.power_log.proofs.Budgets.{up_to, step_log, table_log, left_by, budget_log, StepsLeft, left_more, left_same, left_none, size_some}
 
@@ -75,30 +75,24 @@ module _ (g : Geometry) where
     where
       go : (b : Bool) → same x (nth s 0) ≡ b → Dec (done ≡ 0) → ReadsIn s cs done (x ∷ es)
       go b e (yes z) = subst (λ (d : ℕ). ReadsIn s cs d (x ∷ es)) (sym z) r
-      go false e (no z) = no_wrong (λ rest. reads g cs rest) _ (turn_wrong s 0 x es (sym (tried_no s 0 x (sym e) (sym e)))) r
+      go false e (no z) = no_wrong (λ rest. reads g cs rest) _ (turn_wrong s 0 x es (tried_no s 0 x (sym e) (sym e))) r
       go true e (no z) =
           let first : x ≡ nth s 0 = same_is x (nth s 0) e in
           let other : same x (nth s done) ≡ false = ap (λ (y : Entry). same y (nth s done)) first ∙ t.apart done (omega (arith, z)) h in
-          let one : 1 ≡ tried s done x = tried_again s done x (sym other) (sym e) in
-          let one₀ : 1 ≡ tried s 0 x = tried_on s 0 x (sym e) in
           let big : 1 ≡ size s → ⊥ = λ q. omega (arith, t.more, q) in
-          let a = turn_on s done x es (λ q. omega (arith, one, q)) (λ q. big (one ∙ q)) in
-          let b = turn_on s 0 x es (λ q. omega (arith, one₀, q)) (λ q. big (one₀ ∙ q)) in
-          ap (behind (λ rest. reads g cs rest)) (a ∙ ap (λ (d : ℕ). read_step s d es) (sym one ∙ one₀) ∙ sym b) ∙ r
+          let a = turn_on s done x es 1 (tried_again s done x (sym other) (sym e)) big in
+          let b = turn_on s 0 x es 1 (tried_on s 0 x (sym e)) big in
+          ap (behind (λ rest. reads g cs rest)) (a ∙ sym b) ∙ r
 
   -- the try goes on: to the next entry, or to the mark
   on_next : (s : Step) (done : ℕ) (x : Entry) (es : List Entry) → same x (nth s done) ≡ true → suc done < size s
       → read_step s done (x ∷ es) ≡ read_step s (suc done) es
   on_next s done x es e h =
-      let t : done + 1 ≡ tried s done x = tried_on s done x (sym e) in
-      turn_on s done x es (λ q. omega (arith, t, q)) (λ q. omega (arith, t, q, h))
-      ∙ ap (λ (d : ℕ). read_step s d es) (sym t ∙ add-one done)
+      turn_on s done x es (done + 1) (tried_on s done x (sym e)) (λ q. omega (arith, q, h)) ∙ ap (λ (d : ℕ). read_step s d es) (add-one done)
 
   on_mark : (s : Step) (done : ℕ) (x : Entry) (es : List Entry) → same x (nth s done) ≡ true → suc done ≡ size s
       → read_step s done (x ∷ es) ≡ marked es
-  on_mark s done x es e h =
-      let t : done + 1 ≡ tried s done x = tried_on s done x (sym e) in
-      turn_marked s done x es (λ q. omega (arith, t, q)) (sym t ∙ add-one done ∙ h)
+  on_mark s done x es e h = turn_marked s done x es (done + 1) (tried_on s done x (sym e)) (add-one done ∙ h)
 
   -- a run goes on with the try, through the steps that it has the budget for; behind it the reader goes on with what is left
   walk : (c : Copy) (cs : List Copy) (es : List Entry) → Told (step_of g c)
@@ -211,10 +205,8 @@ module _ (g : Geometry) where
     in_step x log done n e ih false true p q r =
         let m : ℕ = size s - 2 in
         let two : 1 + suc m ≡ size s = let l = t.more in omega arith in
-        let one : 1 ≡ tried s done x = tried_again s done x (sym p) (sym q) in
-        let goes = turn_on s done x log (λ z. omega (arith, one, z)) (λ z. omega (arith, one, z, t.more)) in
-        let f = ih 1 m two (ap (λ (d : ℕ). behind (λ rest. reads g cs rest) (read_step s d log)) one
-        ∙ sym (ap (behind (λ rest. reads g cs rest)) goes) ∙ r) in
+        let goes = turn_on s done x log 1 (tried_again s done x (sym p) (sym q)) (λ z. omega (arith, z, t.more)) in
+        let f = ih 1 m two (sym (ap (behind (λ rest. reads g cs rest)) goes) ∙ r) in
         record {
           budget = 0;
           rest = x ∷ log;
@@ -224,7 +216,7 @@ module _ (g : Geometry) where
           made = refl;
         }
     in_step x log done n e ih false false p q r =
-        no_wrong (λ rest. reads g cs rest) _ (turn_wrong s done x log (sym (tried_no s done x (sym p) (sym q)))) r
+        no_wrong (λ rest. reads g cs rest) _ (turn_wrong s done x log (tried_no s done x (sym p) (sym q))) r
 
     read_in : (log : List Entry) (done n : ℕ) → done + suc n ≡ size s → ReadsIn s cs done log → From log c cs done (suc n)
     unfolding StepsLeft budget_log

@@ -20,7 +20,7 @@ use Rattle.way.proofs.Tables.{swap_count}
 use Rattle.way.proofs.Wanted.{wants_swap}
 use Rattle.power.specs.Power.{ran, runs}
 use Rattle.power.proofs.Runs.{Admits, ran_after, admits_ran}
-use Rattle.log_steps.specs.declared.Entry.{Entry}
+use Rattle.log_steps.specs.Entries.{Entry}
 use Rattle.log_steps.specs.Entries.{entry_of}
 use Rattle.log_steps.specs.Steps.{step_of, size}
 use Rattle.power_log.specs.Log.{done, joined, Swapping, InSwap}

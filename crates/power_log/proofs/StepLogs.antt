@@ -17,8 +17,8 @@ use Rattle.mem_flash.specs.Areas.{Image}
 use Rattle.rules.specs.StateArea.{mark_op}
 use Rattle.rules.specs.Steps.{Copy, to_dfu, to_active, swap_from, source_of, unit_of, chunk_ops, fill_ops, copy_ops}
 use Rattle.way.proofs.Steps.{Whole, Fits, Near, source_placed}
-use Rattle.log_steps.specs.declared.Entry.{Entry}
-use Rattle.log_steps.specs.declared.Step.{Step}
+use Rattle.log_steps.specs.Entries.{Entry}
+use Rattle.log_steps.specs.Steps.{Step}
 use Rattle.log_steps.specs.Entries.{entry, area_number, entry_of}
 use Rattle.log_steps.specs.Steps.{step_for, step_of, nth, size}
 use Rattle.log_steps.specs.Reader.{same}

@@ -20,8 +20,8 @@ use Rattle.rules.specs.Power.{swap_table}
 use Rattle.way.proofs.Tables.{swap_count}
 use Rattle.power.specs.Power.{Marked, runs}
 use Rattle.power.proofs.Start.{state_bytes}
-use Rattle.log_steps.specs.declared.Entry.{Entry}
-use Rattle.log_steps.specs.declared.Step.{Step}
+use Rattle.log_steps.specs.Entries.{Entry}
+use Rattle.log_steps.specs.Steps.{Step}
 use Rattle.log_steps.specs.Entries.{area_number, entry_of, written}
 use Rattle.log_steps.specs.Steps.{step_of, nth, size}
 use Rattle.log_steps.proofs.Entries.{nth_erase, nth_write, nth_mark}

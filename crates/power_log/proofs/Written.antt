@@ -1,36 +1,27 @@
 -- A log as numbers and as entries: numbers of a length that four divides are entries in one way. Serves the judge. Assumes nothing.
-use mathlib.Core.Path.{◌≡◌, refl, sym, ap, ap₂, ◌∙◌}
+use mathlib.Core.Path.{◌≡◌, refl, ap, ap₂, ◌∙◌}
 use mathlib.Core.List.{List, [], ◌∷◌}
-use Prim.Native.Nat.{ℕ, zero, suc, ◌+◌, ◌*◌, ◌≤◌, ◌<◌}
+use Prim.Native.Nat.{ℕ, zero, suc, ◌*◌}
 use native.Mathlib.Omega.{arith}
-use lib.ListN.{length, drop, get_or, drop_of_length-le}
-use lib.Seq.{drop-cons}
-use Rattle.log_steps.specs.declared.Entry.{Entry}
-use Rattle.log_steps.specs.Entries.{entry, written}
-use Rattle.log_steps.specs.Reader.{entry_at, entries_from}
+use lib.ListN.{length}
+use Rattle.std.specs.Simd.{first_chunks}
+use Rattle.log_steps.specs.Entries.{Entry, entry, written, entries}
 
 pub written_length : (es : List Entry) → length (written es) ≡ 4 * length es
 unfolding written
 written_length [] = refl
 written_length (e ∷ es) = let l = written_length es in omega arith
 
--- one more number
-next : (log : List ℕ) (i j : ℕ) → j ≡ i + 1 → i < length log → drop i log ≡ get_or log i 0 ∷ drop j log
-next log i j e h = let s : suc i ≡ j = omega arith in drop-cons log i 0 h ∙ ap (λ (n : ℕ). get_or log i 0 ∷ drop n log) s
-
-pub entries_written : (log : List ℕ) (e n : ℕ) → 4 * (e + n) ≡ length log → written (entries_from log e n) ≡ drop (4 * e) log
-unfolding written entries_from entry_at
-entries_written log e zero h = let l : length log ≤ 4 * e = omega (arith, h) in sym (drop_of_length-le log l)
-entries_written log e (suc n) h =
-    let at : ℕ = 4 * e in
-    let rest : written (entries_from log (suc e) n) ≡ drop (4 * suc e) log = entries_written log (suc e) n (omega arith) in
-    let a = next log at (at + 1) refl (omega (arith, h)) in
-    let b = next log (at + 1) (at + 2) (omega arith) (omega (arith, h)) in
-    let c = next log (at + 2) (at + 3) (omega arith) (omega (arith, h)) in
-    let d = next log (at + 3) (4 * suc e) (omega arith) (omega (arith, h)) in
-    ap (λ (l : List ℕ). get_or log at 0 ∷ get_or log (at + 1) 0 ∷ get_or log (at + 2) 0 ∷ get_or log (at + 3) 0 ∷ l) rest
-    ∙ sym (a ∙ ap (λ (l : List ℕ). get_or log at 0 ∷ l)
-    (b ∙ ap (λ (l : List ℕ). get_or log (at + 1) 0 ∷ l) (c ∙ ap (λ (l : List ℕ). get_or log (at + 2) 0 ∷ l) d)))
+-- rows of four of a log, written down, are the log
+pub rows_written : (n : ℕ) (log : List ℕ) → 4 * n ≡ length log → written (entries (first_chunks 4 n log)) ≡ log
+unfolding written entries
+rows_written zero [] h = refl
+rows_written zero (a ∷ log) h = absurd (omega (arith, h))
+rows_written (suc n) (a ∷ b ∷ c ∷ d ∷ log) h = ap (λ (l : List ℕ). a ∷ b ∷ c ∷ d ∷ l) (rows_written n log (omega (arith, h)))
+rows_written (suc n) [] h = absurd (omega (arith, h))
+rows_written (suc n) (a ∷ []) h = absurd (omega (arith, h))
+rows_written (suc n) (a ∷ b ∷ []) h = absurd (omega (arith, h))
+rows_written (suc n) (a ∷ b ∷ c ∷ []) h = absurd (omega (arith, h))
 
 -- the same numbers are the same entries
 pub written_once : (es fs : List Entry) → written es ≡ written fs → es ≡ fs

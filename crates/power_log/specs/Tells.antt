@@ -7,7 +7,7 @@ use Rattle.rules.specs.StateArea.{progress}
 use Rattle.rules.specs.Steps.{page_count}
 use Rattle.rules.specs.Power.{swap_table}
 use Rattle.power.specs.Power.{runs}
-use Rattle.log_steps.specs.declared.Entry.{Entry}
+use Rattle.log_steps.specs.Entries.{Entry}
 use Rattle.log_steps.specs.Entries.{area_number, entry_of, written}
 use Rattle.power_log.specs.declared.LogAnswer.{LogAnswer}
 use Rattle.power_log.specs.declared.LogAnswer.TheVariants.{Yes}

@@ -2,7 +2,7 @@
 use mathlib.Core.Path.{◌≡◌, ap, sym, ◌∙◌, subst}
 use mathlib.Core.Bool.{Bool, true, false}
 use mathlib.Core.Logic.{◌≢◌}
-use mathlib.Core.Option.{none}
+use Rattle.std.specs.Prelude.{None}
 use mathlib.Core.List.{List, [], ◌∷◌}
 use Prim.Native.Nat.{ℕ, ◌≤◌, ◌<◌}
 use native.Mathlib.Nat.{lt_of_not-le}
@@ -18,13 +18,13 @@ use Rattle.geometry.specs.declared.Refusal.{Refusal}
 use Rattle.geometry.specs.declared.Refusal.TheVariants.{Limit, Page, Area, StateArea, BadState, Range, Checksum}
 use Rattle.geometry.specs.Refusals.{number, Row, row, first_row, boot_refusal, state_refusal, updater_refusal, checked_refusal}
 use Rattle.mem_flash.specs.Flash.{Flash, after}
-use Rattle.rules.specs.declared.Answer.{Answer}
+use Rattle.rules.specs.Calls.{Answer}
 use Rattle.rules.specs.Calls.{Report, Call, report, left, Did}
 
 -- ---- the three ways a call ends
 
 module _ (c : Call) (k : ℕ) where
-  pub report_refused : 0 < c.refusal → report c k ≡ record { number = c.refusal; state = none; count = 0 }
+  pub report_refused : 0 < c.refusal → report c k ≡ record { number = c.refusal; state = None; count = 0 }
   unfolding report pick
   report_refused h = rw (ne_eqb c.refusal 0 (λ e. omega arith))
 
@@ -33,7 +33,7 @@ module _ (c : Call) (k : ℕ) where
   unfolding report pick
   report_done e h = rw (eq-eqb c.refusal 0 e, le-leb (length c.ops) k h)
 
-  pub report_cut : c.refusal ≡ 0 → k < length c.ops → report c k ≡ record { number = 7; state = none; count = k }
+  pub report_cut : c.refusal ≡ 0 → k < length c.ops → report c k ≡ record { number = 7; state = None; count = k }
   unfolding report pick
   report_cut e h = rw (eq-eqb c.refusal 0 e, lt-leb (length c.ops) k h)
 

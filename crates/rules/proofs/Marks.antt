@@ -12,7 +12,7 @@ use Rattle.geometry.specs.declared.StateSizes.{StateSizes}
 use Rattle.mem_flash.specs.Flash.{Flash, Op, after}
 use Rattle.mem_flash.specs.Run.{flash}
 use Rattle.mem_flash.proofs.StateOnly.{OnState, nothing, writes, on_append, on_erase, after_alone}
-use Rattle.rules.specs.declared.Answer.{Answer}
+use Rattle.rules.specs.Calls.{Answer}
 use Rattle.rules.specs.StateArea.{word, valid, invalidate_op, magic_op}
 use Rattle.rules.specs.Boot.{renew_ops}
 use Rattle.rules.specs.FirmwareState.{set_magic_ops}

@@ -1,39 +1,34 @@
 -- The definitions leave no choice: any two results that they allow for one call, flash and budget are equal. Each public
 -- function is one `Call`, so this is the theorem for all of them. Assumes nothing.
 use mathlib.Core.Path.{◌≡◌, refl, ap, ◌∙◌, sym}
-use mathlib.Core.Option.{Option, none, some}
 use Prim.Native.Nat.{ℕ}
 use lib.Dec.{eqb}
-use Rattle.state.specs.declared.State.{State}
 use Rattle.state.specs.Choice.{pick}
 use Rattle.geometry.specs.declared.Refusal.TheVariants.{Limit, Page, Area, StateArea, BadState, Range, Checksum}
 use Rattle.geometry.specs.Refusals.{number}
 use Rattle.geometry.proofs.Unique.{refusal_of}
 use Rattle.mem_flash.specs.Flash.{Flash}
-use Rattle.rules.specs.declared.Answer.{Answer}
-use Rattle.rules.specs.declared.Answer.TheVariants.{Found, Done, Refused, Cut}
-use Rattle.rules.specs.Calls.{Report, Call, reported, Did}
+use Rattle.std.specs.Prelude.{Ok, Err}
+use Rattle.rules.specs.declared.Stop.TheVariants.{Refused, Cut}
+use Rattle.rules.specs.Calls.{Answer, Report, Call, reported, Did}
 
 -- what a report says can be read back
-done_of : Option State → ℕ → Answer
-done_of (some s) n = Found s n
-done_of none n = Done n
-
 answer_of : Report → Answer
-answer_of t = pick (eqb t.number 7) (Cut t.count) (pick (eqb t.number 0) (done_of t.state t.count) (Refused (refusal_of t.number)))
+answer_of t =
+    pick (eqb t.number 7) (Err (Cut t.count))
+    (pick (eqb t.number 0) (Ok (record { state = t.state; count = t.count })) (Err (Refused (refusal_of t.number))))
 
 back : (r : Answer) → answer_of (reported r) ≡ r
-unfolding answer_of done_of refusal_of reported number pick
-back (Found s n) = refl
-back (Done n) = refl
-back (Refused Limit) = refl
-back (Refused Page) = refl
-back (Refused Area) = refl
-back (Refused StateArea) = refl
-back (Refused BadState) = refl
-back (Refused Range) = refl
-back (Refused Checksum) = refl
-back (Cut n) = refl
+unfolding answer_of refusal_of reported number pick
+back (Ok d) = refl
+back (Err (Refused Limit)) = refl
+back (Err (Refused Page)) = refl
+back (Err (Refused Area)) = refl
+back (Err (Refused StateArea)) = refl
+back (Err (Refused BadState)) = refl
+back (Err (Refused Range)) = refl
+back (Err (Refused Checksum)) = refl
+back (Err (Cut n)) = refl
 
 -- so two answers that tell the same are the same
 pub answer_unique : (q r : Answer) → reported q ≡ reported r → q ≡ r

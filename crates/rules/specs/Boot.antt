@@ -1,6 +1,6 @@
 -- Document 01, "Steps": prepare_boot, and read_state. Assumes nothing.
 use Rattle.std.specs.Prelude.{Bool, false, List, [], ◌∷◌, ◌++◌, ℕ, ◌*◌, ltb, length}
-use Rattle.std.proofs.Math.Option.{some}
+use Rattle.std.specs.Prelude.{Some}
 use Rattle.state.specs.declared.State.{State}
 use Rattle.state.specs.declared.State.TheVariants.{Boot, Swap, Revert, DfuDetach}
 use Rattle.state.specs.Choice.{pick}
@@ -69,10 +69,10 @@ unfoldable pub prepare_boot : Geometry → Flash → Call
 prepare_boot g f =
     record {
       refusal = boot_refusal g (length f.active) (length f.dfu) (length f.state);
-      state = some (read_state g.state f.state);
+      state = Some (read_state g.state f.state);
       ops = boot_ops g f;
     }
 
 -- read_state of the boot loader and get_state of the firmware state do no operation
 unfoldable pub get_state : StateSizes → List ℕ → Call
-get_state z st = record { refusal = state_refusal z (length st); state = some (read_state z st); ops = [] }
+get_state z st = record { refusal = state_refusal z (length st); state = Some (read_state z st); ops = [] }

@@ -1,5 +1,5 @@
 -- Document 01, "Steps": mark_updated, mark_dfu and mark_booted, one definition for the three. Assumes nothing.
-use Rattle.std.proofs.Math.Option.{none}
+use Rattle.std.specs.Prelude.{None}
 use Rattle.std.specs.Prelude.{List, [], ◌∷◌, ◌++◌, ℕ, length}
 use Rattle.state.specs.declared.State.{State}
 use Rattle.state.specs.Choice.{pick}
@@ -19,4 +19,4 @@ set_magic_ops z m st =
 
 -- the state that is marked: Swap by mark_updated, DfuDetach by mark_dfu, Boot by mark_booted
 unfoldable pub mark : State → StateSizes → List ℕ → Call
-mark s z st = record { refusal = state_refusal z (length st); state = none; ops = set_magic_ops z (magic s) st }
+mark s z st = record { refusal = state_refusal z (length st); state = None; ops = set_magic_ops z (magic s) st }

@@ -1,6 +1,6 @@
 -- The updater's calls: document 01, "Steps", and rows 5 and 6 of "When a call says no". Assumes nothing.
 use Rattle.std.specs.Prelude.{Bool, true, false, not, List, [], ◌∷◌, ◌++◌, ℕ, zero, suc, ◌+◌, ◌-◌, ◌*◌, ◌/◌, ◌%◌, ltb, eqb, length, take, drop}
-use Rattle.std.proofs.Math.Option.{Option, none, some}
+use Rattle.std.specs.Prelude.{Option, None, Some}
 use Rattle.state.specs.declared.Cell.{Cell}
 use Rattle.state.specs.declared.State.{State}
 use Rattle.state.specs.declared.State.TheVariants.{Boot, Swap, Revert, DfuDetach}
@@ -12,8 +12,6 @@ use Rattle.geometry.specs.declared.Sizes.{Sizes}
 use Rattle.geometry.specs.Geometry.{cell}
 use Rattle.geometry.specs.Refusals.{any, uneven, updater_refusal, checked_refusal}
 use Rattle.mem_flash.specs.Flash.{dfu, Flash, Op, erase, write, erase_ops}
-use Rattle.rules.specs.declared.Sector.{Sector}
-use Rattle.rules.specs.declared.Sector.TheVariants.{None, At}
 use Rattle.rules.specs.StateArea.{read_state}
 use Rattle.rules.specs.FirmwareState.{set_magic_ops}
 use Rattle.rules.specs.Calls.{Call}
@@ -40,21 +38,25 @@ pieces_from (suc n) ed at (b ∷ bs) =
 unfoldable pub pieces : ℕ → ℕ → List ℕ → List Piece
 pieces ed at bytes = pieces_from (length bytes) ed at bytes
 
+-- the updater's memory: the sector that it erased last
+abbrev pub Sector : Type 0
+Sector = Option ℕ
+
 -- the sector is the one last erased
 unfoldable pub remembers : Sector → ℕ → Bool
 remembers None s = false
-remembers (At t) s = eqb t s
+remembers (Some t) s = eqb t s
 
 -- each piece: its sector, which is one unit, erased unless it is the one last erased, and remembered; the piece written
 unfoldable pub pieces_ops : Cell → ℕ → Sector → List Piece → List Op
 pieces_ops c ed m [] = []
 pieces_ops c ed m (p ∷ ps) =
     pick (remembers m (p.at / ed)) [] (erase c dfu (p.at / ed * ed) ed ∷ [])
-    ++ (write c dfu p.at p.bytes ∷ pieces_ops c ed (At (p.at / ed)) ps)
+    ++ (write c dfu p.at p.bytes ∷ pieces_ops c ed (Some (p.at / ed)) ps)
 
 -- the memory after operations: set once an erase is done, and by nothing else
 unfoldable pub remembered_op : ℕ → Op → Sector → Sector
-remembered_op ed (erase c a from n) m = At (from / ed)
+remembered_op ed (erase c a from n) m = Some (from / ed)
 remembered_op ed (write c a at bs) m = m
 
 unfoldable pub remembered : ℕ → List Op → Sector → Sector
@@ -94,11 +96,11 @@ updater_call z f swap range s ops =
     }
 
 unfoldable pub updater_get_state : Sizes → Flash → Call
-updater_get_state z f = updater_call z f false false (some (read_state z.state f.state)) []
+updater_get_state z f = updater_call z f false false (Some (read_state z.state f.state)) []
 
 -- mark_updated and mark_booted look at no row 5; mark_dfu does
 unfoldable pub updater_mark : State → Bool → Sizes → Flash → Call
-updater_mark s swap z f = updater_call z f swap false none (set_magic_ops z.state (magic s) f.state)
+updater_mark s swap z f = updater_call z f swap false None (set_magic_ops z.state (magic s) f.state)
 
 unfoldable pub updater_mark_updated : Sizes → Flash → Call
 updater_mark_updated z f = updater_mark Swap false z f
@@ -111,7 +113,7 @@ updater_mark_booted z f = updater_mark Boot false z f
 
 -- read_dfu of n bytes does no operation
 unfoldable pub read_dfu : Sizes → ℕ → ℕ → Flash → Call
-read_dfu z offset n f = updater_call z f false (past_end (length f.dfu) offset n) none []
+read_dfu z offset n f = updater_call z f false (past_end (length f.dfu) offset n) None []
 
 -- and fills the buffer `out` with the bytes at the offset, where it is not refused
 unfoldable pub read_out : Sizes → ℕ → List ℕ → Flash → List ℕ
@@ -125,7 +127,7 @@ write_firmware z m offset bytes f =
     f
     (pending z.state f.state)
     (bad_range z.wd (length f.dfu) offset (length bytes))
-    none
+    None
     (pieces_ops (cell z.state) z.ed m (pieces z.ed offset bytes))
 
 -- the memory after write_firmware with a budget of k
@@ -138,7 +140,7 @@ memory k z m offset bytes f =
 -- prepare_update: all of DFU erased; the memory stays as it is
 unfoldable pub prepare_update : Sizes → Flash → Call
 prepare_update z f =
-    updater_call z f (pending z.state f.state) false none (erase_ops (cell z.state) z.ed dfu 0 (length f.dfu))
+    updater_call z f (pending z.state f.state) false None (erase_ops (cell z.state) z.ed dfu 0 (length f.dfu))
 
 -- row 8: the first n bytes of DFU do not have the sum that is expected (02, No. 7)
 unfoldable pub wrong_sum : ℕ → ℕ → List ℕ → Bool
@@ -156,6 +158,6 @@ check_and_mark_updated z n sum f =
           (pending z.state f.state)
           (past_end (length f.dfu) 0 n)
           (wrong_sum n sum f.dfu);
-      state = none;
+      state = None;
       ops = set_magic_ops z.state (magic Swap) f.state;
     }

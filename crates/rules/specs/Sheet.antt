@@ -1,7 +1,7 @@
 -- Document 01, "Bench sheet": the starred cases as one table, and the one statement that the definitions give it.
 -- Assumes nothing.
 use Rattle.std.specs.Prelude.{◌≡◌, List, [], ◌∷◌, ◌++◌, map, ℕ, replicate}
-use Rattle.std.proofs.Math.Option.{none, some}
+use Rattle.std.specs.Prelude.{None, Some}
 use Rattle.state.specs.declared.State.{State}
 use Rattle.state.specs.declared.State.TheVariants.{Boot, Swap}
 use Rattle.geometry.specs.declared.Geometry.{Geometry}
@@ -44,13 +44,13 @@ walk g (x ∷ xs) r f = walk g xs (report (call g x f) (budget x)) (left (call g
 -- ---- the sheet's words
 
 unfoldable pub done : State → ℕ → Report
-done s n = record { number = 0; state = some s; count = n }
+done s n = record { number = 0; state = Some s; count = n }
 
 unfoldable pub cut : ℕ → Report
-cut n = record { number = 7; state = none; count = n }
+cut n = record { number = 7; state = None; count = n }
 
 unfoldable pub refused : ℕ → Report
-refused n = record { number = n; state = none; count = 0 }
+refused n = record { number = n; state = None; count = 0 }
 
 -- pages of four bytes, each filled with one byte
 unfoldable pub filled : List ℕ → List ℕ

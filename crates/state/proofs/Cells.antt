@@ -1,8 +1,8 @@
 -- What the byte rule means, for either cell; proofs above use these laws and no case. An erased byte takes what is written, a mark
 -- stays as it is written over any byte, an erased byte is no mark, and what a write leaves is a byte. `merged_is` is the rule as the
 -- loops have it. Assumes nothing.
-use mathlib.Core.Path.{◌≡◌, ◌∙◌}
-use Prim.Native.Nat.{ℕ, ◌<◌, ◌^◌}
+use mathlib.Core.Path.{◌≡◌, refl, ◌∙◌}
+use Prim.Native.Nat.{ℕ, ◌-◌, ◌<◌, ◌^◌}
 use native.Mathlib.Nat.{mod-eq_of_lt}
 use native.Mathlib.Omega.{arith}
 use lib.Bits.{bit_and, bit_or, and_mask, and_comm, and_zero_r, and_lt, and_le_l, or_zero_l, or_zero_r, or_add_and, or_lt}
@@ -28,6 +28,12 @@ pub programmed_marked : (c : Cell) (b : ℕ) → b < 2 ^ 8 → programmed c b (m
 unfolding programmed marked
 programmed_marked High b h = and_zero_r b
 programmed_marked Low b h = or_ones b h
+
+-- a mark is what an erase does not leave, bit by bit
+pub not_erased : (c : Cell) → 255 - erased c ≡ marked c
+unfolding marked erased
+not_erased High = refl
+not_erased Low = refl
 
 pub marked_not_erased : (c : Cell) → marked c ≡ erased c → ⊥
 unfolding marked erased

@@ -1,59 +1,27 @@
--- Laws of the state that a word stands for: one for each way out of `State::from_magic`, by the word of one byte, and of `State::from`.
--- Assumes nothing.
+-- Laws of the state that a word stands for: one for each way out of the conversion of a word. Assumes nothing.
 use mathlib.Core.Path.{◌≡◌, refl, ap, sym, ◌∙◌}
 use mathlib.Core.Bool.{Bool, true, false}
 use mathlib.Core.List.{List, [], ◌∷◌}
-use Prim.Native.Nat.{ℕ, ◌<◌}
-use native.Mathlib.Nat.{not-suc-le-zero}
-use native.Mathlib.Omega.{arith}
+use Prim.Native.Nat.{ℕ}
 use lib.Dec.{eqb}
-use lib.ListN.{length, get_or}
-use borrow.Author.Tests.{eq-eqb, ne_eqb, eqb-true}
+use Rattle.std.specs.List.{slice_get}
+use Rattle.std.proofs.Common.{Some, None}
+use borrow.Author.Tests.{eq-eqb, eqb-true}
 use Rattle.state.specs.declared.State.{State}
 use Rattle.state.specs.declared.State.TheVariants.{Boot, Swap, Revert, DfuDetach}
 use Rattle.state.specs.Choice.{pick}
 use Rattle.state.specs.Magic.{magic, throughout, state_of}
 
--- the numerals of the code are the magics, so the laws take them as the code has them
-module _ (w : List ℕ) where
-  pub is_swap_lem : throughout 0xF0 w ≡ true → Swap ≡ state_of w
-  unfolding state_of pick magic
-  is_swap_lem e = rw e
-
-  module _ (n : throughout 0xF0 w ≡ false) where
-    pub is_revert : throughout 0xC0 w ≡ true → Revert ≡ state_of w
-    unfolding state_of pick magic
-    is_revert e = rw (n, e)
-
-    pub is_detach : throughout 0xC0 w ≡ false → throughout 0xE0 w ≡ true → DfuDetach ≡ state_of w
-    unfolding state_of pick magic
-    is_detach m e = rw (n, m, e)
-
-    pub is_boot : throughout 0xC0 w ≡ false → throughout 0xE0 w ≡ false → Boot ≡ state_of w
-    unfolding state_of pick magic
-    is_boot m e = rw (n, m, e)
-
--- a word of one byte holds a byte throughout just if it is that byte
-module _ (b v : ℕ) where
-  pub one_is : b ≡ v → throughout v (b ∷ []) ≡ true
-  unfolding throughout pick
-  one_is e = rw (eq-eqb _ _ e)
-
-  pub one_not : (b ≡ v → ⊥) → throughout v (b ∷ []) ≡ false
-  unfolding throughout pick
-  one_not e = rw (ne_eqb _ _ e)
-
-  pub one_other : (u : ℕ) → b ≡ u → eqb u v ≡ false → throughout v (b ∷ []) ≡ false
-  unfolding throughout pick
-  one_other u e d = rw (e, d)
-
--- ---- a word and its first byte
+-- a word that holds Swap's magic throughout reads Swap
+pub is_swap_lem : (w : List ℕ) → throughout 0xF0 w ≡ true → Swap ≡ state_of w
+unfolding state_of pick magic
+is_swap_lem w e = rw e
 
 -- no bytes read Swap
-pub none_swap : (w : List ℕ) → length w ≡ 0 → Swap ≡ state_of w
-unfolding state_of throughout pick
-none_swap [] e = refl
-none_swap (x ∷ xs) e = absurd (omega (arith, e))
+pub none_swap : (w : List ℕ) → None ≡ slice_get w 0 → Swap ≡ state_of w
+unfolding throughout
+none_swap [] e = is_swap_lem [] refl
+none_swap (x ∷ xs) e = cc
 
 -- a word that holds its first byte throughout holds v throughout just if that byte is v
 module _ (x : ℕ) (xs : List ℕ) where
@@ -75,15 +43,21 @@ module _ (x : ℕ) (xs : List ℕ) where
       go false q = refl
 
 -- so it reads as its first byte does, or Boot
-pub first_filled : (w : List ℕ) → 0 < length w → throughout (get_or w 0 0) w ≡ true → state_of (get_or w 0 0 ∷ []) ≡ state_of w
+pub first_filled : (x : ℕ) (w : List ℕ) → Some x ≡ slice_get w 0 → throughout x w ≡ true → state_of (x ∷ []) ≡ state_of w
 unfolding state_of
-first_filled [] h e = absurd (not-suc-le-zero h)
-first_filled (x ∷ xs) h e = sym (rw (filled_by x xs (magic Swap) e, filled_by x xs (magic Revert) e, filled_by x xs (magic DfuDetach) e))
+first_filled x [] h e = cc
+first_filled x (y ∷ ys) h e =
+    let same : x ≡ y = cc in
+    let t : throughout y (y ∷ ys) ≡ true = rw same at e in
+    rw same (sym (rw (filled_by y ys (magic Swap) t, filled_by y ys (magic Revert) t, filled_by y ys (magic DfuDetach) t)))
 
-pub first_mixed : (w : List ℕ) → 0 < length w → throughout (get_or w 0 0) w ≡ false → Boot ≡ state_of w
+pub first_mixed : (x : ℕ) (w : List ℕ) → Some x ≡ slice_get w 0 → throughout x w ≡ false → Boot ≡ state_of w
 unfolding state_of pick
-first_mixed [] h e = absurd (not-suc-le-zero h)
-first_mixed (x ∷ xs) h e = rw (mixed_by x xs (magic Swap) e, mixed_by x xs (magic Revert) e, mixed_by x xs (magic DfuDetach) e)
+first_mixed x [] h e = cc
+first_mixed x (y ∷ ys) h e =
+    let same : x ≡ y = cc in
+    let t : throughout y (y ∷ ys) ≡ false = rw same at e in
+    rw (mixed_by y ys (magic Swap) t, mixed_by y ys (magic Revert) t, mixed_by y ys (magic DfuDetach) t)
 
 -- a state's own byte reads as that state
 pub magic_back : (s : State) → state_of (magic s ∷ []) ≡ s

@@ -9,8 +9,8 @@ use Rattle.state.proofs.State.magic.Kinds as magic_kinds
 use Rattle.state.proofs.State.magic.Reads as magic
 use Rattle.state.proofs.State.from_magic.Kinds as from_magic_kinds
 use Rattle.state.proofs.State.from_magic.Reads as from_magic
-use Rattle.state.proofs.State.from.Kinds as from_kinds
-use Rattle.state.proofs.State.from.Reads as from
+use Rattle.state.proofs.StateFromRefSliceU8.from.Kinds as from_kinds
+use Rattle.state.proofs.StateFromRefSliceU8.from.Reads as from
 use Rattle.state.proofs.word.all_are.Kinds as all_are_kinds
 use Rattle.state.proofs.word.all_are.Reads as all_are
 

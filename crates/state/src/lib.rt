@@ -8,7 +8,7 @@ ghost use Rattle.state.specs.Magic.{magic, state_of};
 pub mod word;
 
 // What the boot loader finds to do, as the first word of the state area says it.
-#[derive(Clone, Copy)]
+#[derive(Clone, Copy, Debug, PartialEq, Eq)]
 pub enum State {
     // Nothing: the active image is started.
     Boot,
@@ -21,7 +21,7 @@ pub enum State {
 }
 
 // The cells of which a flash is made, by how an erased one reads: ones, which a write turns to zeros, or the other way round.
-#[derive(Clone, Copy)]
+#[derive(Clone, Copy, Debug, PartialEq, Eq)]
 pub enum Cell {
     High,
     Low,
@@ -29,6 +29,7 @@ pub enum Cell {
 
 impl Cell {
     // What a byte of the flash holds after an erase.
+    #[tactic(auto, unfolding(crate::specs::Cells::erased))]
     pub fn erased(self) -> u8
         ensures { result ≡ erased self }
     {
@@ -39,13 +40,11 @@ impl Cell {
     }
 
     // What a mark and the invalidation write: no bit as an erase leaves it.
+    #[tactic(auto, using(crate::proofs::Cells::not_erased))]
     pub fn marked(self) -> u8
         ensures { result ≡ marked self }
     {
-        match self {
-            Cell::High => !State::ERASE_VALUE,
-            Cell::Low => State::ERASE_VALUE,
-        }
+        !self.erased()
     }
 }
 
@@ -61,7 +60,8 @@ impl State {
     // What a byte holds after an erase in the Rust's default build; its switch for flash that erases to zero is a cell here.
     pub const ERASE_VALUE: u8 = 0xFF;
 
-    // The byte of which this state's word is made.
+    // The byte of which this state's word is made. By the constants, which are the Rust's names, and not by the enum's own numbers.
+    #[tactic(auto, unfolding(crate::specs::Magic::magic))]
     pub fn magic(self) -> u8
         ensures { result ≡ magic self }
     {
@@ -73,7 +73,8 @@ impl State {
         }
     }
 
-    // The state of a word all of whose bytes are this one.
+    // The state of a word all of whose bytes are this one. No `From<u8>`: a byte alone is no word, and converting it would say less.
+    #[tactic(auto, unfolding(crate::specs::Magic::state_of, crate::specs::Magic::throughout, crate::specs::Magic::magic, crate::specs::Choice::pick))]
     pub fn from_magic(byte: u8) -> State
         ensures { result ≡ state_of (byte ∷ []) }
     {
@@ -84,18 +85,17 @@ impl State {
             _ => State::Boot,
         }
     }
+}
 
-    // The state of a word: its bytes have to be one magic throughout. No bytes at all read Swap, as in the Rust.
-    pub fn from(magic: &[u8]) -> State
-        ensures { result ≡ state_of magic.now }
-    {
-        if magic.len() == 0 {
-            return State::Swap;
+// The state of a word: its bytes have to be one magic throughout. No bytes at all read Swap, as in the Rust.
+impl From<&[u8]> for State {
+    ghost from_gives = { λ word state. state ≡ state_of word.now };
+
+    fn from(word: &[u8]) -> State {
+        match word.first() {
+            None => State::Swap,
+            Some(byte) if word::all_are(word, *byte) => State::from_magic(*byte),
+            Some(_) => State::Boot,
         }
-        let byte = magic[0];
-        if word::all_are(magic, byte) {
-            return State::from_magic(byte);
-        }
-        State::Boot
     }
 }

@@ -1,4 +1,4 @@
-// The question that the Rust asks of a word by an iterator. Its other one, whether some byte is a value, is asked by blocks (byte_search).
+// The question that the Rust asks of a word by an iterator. Its other one, whether some byte is a value, is a search (byte_search).
 ghost use Rattle.std.specs.Prelude.{◌≡◌};
 ghost use Rattle.state.specs.Magic.{throughout};
 
@@ -6,12 +6,5 @@ ghost use Rattle.state.specs.Magic.{throughout};
 pub fn all_are(word: &[u8], value: u8) -> bool
     ensures { result ≡ throughout value word.now }
 {
-    let mut i = 0;
-    while i < word.len() {
-        if word[i] != value {
-            return false;
-        }
-        i += 1;
-    }
-    true
+    word.iter().all(|byte| *byte == value)
 }

@@ -9,8 +9,8 @@ use Rattle.state.specs.Cells.{marked}
 use Rattle.geometry.specs.declared.StateSizes.{StateSizes}
 use Rattle.geometry.specs.Geometry.{cell}
 use Rattle.mem_flash.specs.declared.Budget.{Budget}
-use Rattle.mem_flash.specs.declared.Flow.{Flow}
-use Rattle.mem_flash.specs.declared.Flow.TheVariants.{On, Cut}
+use Rattle.mem_flash.specs.Run.{Flow, cut}
+use Rattle.std.specs.Prelude.{Ok}
 use Rattle.mem_flash.specs.Flash.{Area, state, Op, change, erase_ops}
 use Rattle.mem_flash.specs.Run.{flash, placed, InArea, write_ops}
 use Rattle.mem_flash.proofs.Runs.{area_on, area_cut}
@@ -36,11 +36,11 @@ module _ (k : ℕ) (z : StateSizes) (m : ℕ) (st st₁ : List ℕ) (r : Flow) (
   erases : InArea k (λ a. erase_ops (cell z) z.es a 0 (length st)) st st₁ r
   erases = rw (sub-zero (length st), h) at w
 
-  pub renew_cut : r ≡ Cut → Renewed k z m st st₁ Cut
+  pub renew_cut : r ≡ cut → Renewed k z m st st₁ cut
   unfolding renew_ops magic_op
-  renew_cut o = in_state k _ st st₁ Cut (area_cut k _ st st₁ r erases (write_ops (cell z) 0 (replicate z.ws m)) o)
+  renew_cut o = in_state k _ st st₁ cut (area_cut k _ st st₁ r erases (write_ops (cell z) 0 (replicate z.ws m)) o)
 
-  pub renew_on : (l : Budget) (st₂ : List ℕ) (q : Flow) {at : ℕ} → r ≡ On l → at ≡ 0 * z.ws → InArea l.0 (write_ops c at (replicate z.ws m)) st₁ st₂ q
+  pub renew_on : (l : Budget) (st₂ : List ℕ) (q : Flow) {at : ℕ} → r ≡ Ok l → at ≡ 0 * z.ws → InArea l.0 (write_ops c at (replicate z.ws m)) st₁ st₂ q
       → Renewed k z m st st₂ q
   unfolding renew_ops magic_op
   renew_on l st₂ q o e v =

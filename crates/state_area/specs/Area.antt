@@ -1,7 +1,7 @@
 -- What is promised of the two functions that change the state area, whatever the images hold. Assumes nothing.
 use Rattle.std.specs.Prelude.{◌≡◌, List, [], ◌∷◌, ℕ, length}
 use Rattle.geometry.specs.declared.StateSizes.{StateSizes}
-use Rattle.mem_flash.specs.declared.Flow.{Flow}
+use Rattle.mem_flash.specs.Run.{Flow}
 use Rattle.mem_flash.specs.Flash.{Op}
 use Rattle.mem_flash.specs.Run.{flash, ended, run}
 use Rattle.rules.specs.StateArea.{invalidate_op}

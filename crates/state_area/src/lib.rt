@@ -1,7 +1,8 @@
 // What the boot loader and the firmware state both do with the state area, lines that the Rust writes in both files; and the search for
 // the progress, which the loader alone asks for.
 // A word that an area does not have whole is what there is of it, so nothing is asked of the caller; but where the search is to begin
-// there must be a mark.
+// there must be a mark. The area and its sizes are two parameters: six of these functions read the area and two change it, so a struct of
+// both would be two, one for each kind of reference.
 #![tactic(auto)]
 
 ghost use Rattle.std.specs.Prelude.{◌≡◌, ◌+◌, ◌-◌, ◌*◌, ◌≤◌, ◌<◌, length};
@@ -11,7 +12,7 @@ ghost use Rattle.state_area.specs.Area.{Invalidated, Renewed};
 ghost use Rattle.rules.specs.StateArea.{word, read_state, valid, most_marks, first_open, marks_done, progress};
 
 use geometry::{Offset, StateSizes, Word};
-use mem_flash::{Budget, Flow};
+use mem_flash::{Budget, PowerCut};
 use state::State;
 
 // The words that are no marks: the magic, and the validity of the progress.
@@ -19,12 +20,15 @@ const MAGIC: Word = Word(0);
 
 const VALIDITY: Word = Word(1);
 
-// Where one of them begins.
-fn word_offset(w: Word, z: StateSizes) -> Offset
+// The bytes of one of them, as many as there are.
+fn word_of(state: &[u8], w: Word, z: StateSizes) -> &[u8]
     requires { w.0 ≤ 1 }
-    ensures { result.0 ≡ w.0 * z.ws }
+    ensures { result.now ≡ word z w.0 state.now }
 {
-    Offset(w.0 * z.ws as usize)
+    let start = w.offset(z).0.min(state.len());
+    let rest = &state[start..];
+    let end = (z.ws as usize).min(rest.len());
+    &rest[..end]
 }
 
 // Whether each byte of it is `value`.
@@ -32,11 +36,7 @@ fn word_is(state: &[u8], w: Word, z: StateSizes, value: u8) -> bool
     requires { w.0 ≤ 1 }
     ensures { result ≡ throughout value (word z w.0 state.now) }
 {
-    let at = word_offset(w, z);
-    let start = geometry::least(at.0, state.len());
-    let rest = &state[start..];
-    let end = geometry::least(z.ws as usize, rest.len());
-    state::word::all_are(&rest[..end], value)
+    state::word::all_are(word_of(state, w, z), value)
 }
 
 // Whether each byte of word 0 is `value`.
@@ -50,11 +50,7 @@ pub fn magic_is(state: &[u8], z: StateSizes, value: u8) -> bool
 pub fn read(state: &[u8], z: StateSizes) -> State
     ensures { result ≡ read_state z state.now }
 {
-    let at = word_offset(MAGIC, z);
-    let start = geometry::least(at.0, state.len());
-    let rest = &state[start..];
-    let end = geometry::least(z.ws as usize, rest.len());
-    State::from(&rest[..end])
+    State::from(word_of(state, MAGIC, z))
 }
 
 // Whether the progress counts: each byte of word 1 is as an erase leaves it.
@@ -70,10 +66,10 @@ fn most_marks(n: usize, z: StateSizes) -> usize
 {
     let ws = z.ws as usize;
     if ws == 0 {
-        return 0;
+        0
+    } else {
+        (n / ws).saturating_sub(3)
     }
-    let t = n / ws;
-    t - geometry::least(t, 3)
 }
 
 // The first open mark from one on among those that are read, or how many these are. A mark is open while it holds an erased byte, so
@@ -120,24 +116,21 @@ pub fn progress(state: &[u8], z: StateSizes) -> usize
 }
 
 // Makes the progress invalid: one operation.
-pub fn invalidate(state: &mut [u8], z: StateSizes, left: Budget) -> Flow
+pub fn invalidate(state: &mut [u8], z: StateSizes, left: Budget) -> Result<Budget, PowerCut>
     ensures { Invalidated left.0 z state.old state.new result }
 {
     let cell = z.cell();
-    let at = word_offset(VALIDITY, z);
+    let at = VALIDITY.offset(z);
     mem_flash::write_word(state, at, cell.marked(), z.ws as usize, cell, left)
 }
 
 // Erases the whole area, magic and progress, and writes a magic.
-pub fn renew(state: &mut [u8], z: StateSizes, magic: u8, left: Budget) -> Flow
+pub fn renew(state: &mut [u8], z: StateSizes, magic: u8, left: Budget) -> Result<Budget, PowerCut>
     ensures { Renewed left.0 z magic state.old state.new result }
 {
     let cell = z.cell();
     let n = state.len();
-    let Flow::On(rest) = mem_flash::erase(state, Offset(0), Offset(n), z.es as usize, cell, left)
-    else {
-        return Flow::Cut;
-    };
-    let at = word_offset(MAGIC, z);
+    let rest = mem_flash::erase(state, Offset(0), Offset(n), z.es as usize, cell, left)?;
+    let at = MAGIC.offset(z);
     mem_flash::write_word(state, at, magic, z.ws as usize, cell, rest)
 }

@@ -87,7 +87,7 @@ pub(crate) fn updater_limits(z: Sizes, ld: usize, ls: usize) -> bool
     )
 }
 
-// Row 2 of prepare_boot.
+// Row 2 of prepare_boot. `Numbers` is asked by three rows and made by `boot_limits`: a struct for it would hold a `Geometry` again.
 pub(crate) fn uneven_page(g: Geometry) -> bool
     requires { Numbers g }
     ensures { result ≡ uneven_page g }

@@ -4,10 +4,9 @@ use Rattle.answer_text.proofs.command_text.Goals as goal
 
 pub returns : goal.returns
 returns c =
-    let t = c.tell-told.ensures in record {
-      prefix_len = c.put_bytes.ensures.prefix_len;
-      put = line_answered c.args.command _ _ _ _ _ _ _ _ _ _ _ _ _ _ c.put_name-a.ensures.0
-          c.put_bytes-b.ensures.put (rw t.0 at c.put_number-c.ensures.0)
-          (rw t.1 at c.put_bytes-d.ensures.put) (rw t.2 at c.put_number-e.ensures.0)
-          c.put_bytes.ensures.put;
-    }
+    let t = c.tell-told.ensures in
+    let name = rw c.name.ensures at c.put_bytes.ensures in
+    let number = rw (c.from.ensures, t.number) at c.put_number.ensures.items in
+    let state = rw t.state at c.put_bytes-3.ensures in
+    let count = rw (c.from-2.ensures, t.count) at c.put_number-2.ensures.items in
+    line_answered c.args.command _ _ _ _ _ _ _ _ c.new-text.ensures name c.put_bytes-2.ensures number state count c.put_bytes-4.ensures

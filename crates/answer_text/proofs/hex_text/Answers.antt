@@ -1,23 +1,21 @@
--- `hex_text`: what `hex` does with all bytes, or with the first 32. Assumes nothing.
-use mathlib.Core.Path.{sym}
-use native.Mathlib.Omega.{arith}
-use native.Mathlib.Nat.{le_of_lt}
-use lib.Seq.{length-take-le}
-use Rattle.answer_text.proofs.Texts.{hex_few, hex_first}
+-- `hex_text`: the bytes passed stand in hexadecimal. Assumes nothing.
+use Rattle.std.proofs.Common.{arith, length-take}
+use Rattle.answer_text.specs.Answers.{hex_of}
+use Rattle.answer_text.proofs.Texts.{hex_count, hex_turn, hex_end}
 use Rattle.answer_text.proofs.hex_text.Goals as goal
 
-pub returns-then-bytes-le32 : goal.returns-then-bytes-le32
-returns-then-bytes-le32 c =
-    let h = hex_few _ _ _ _ (omega (arith, c.hex.auto.out)) c.if-bytes-le32.true c.hex.ensures in
-    record { prefix_len = h.0; put = h.1 }
+pub loop-b-init : goal.loop-b-init
+unfolding hex_of
+loop-b-init c = c.new-text.ensures
 
-pub hex-requires-2 : goal.hex-requires-2
-hex-requires-2 c = omega (arith, length-take-le 32 c.args.bytes.now (le_of_lt c.if-bytes-le32.false))
+pub put_bytes-requires : goal.put_bytes-requires
+put_bytes-requires c =
+    let n = hex_count _ _ _ c.loop-b.invariant c.loop-b.auto.b-index-end in
+    omega (arith, n, c.loop-b-test.true, length-take c.min.result c.args.bytes.now, c.min.ensures)
+
+pub loop-b-preserved : goal.loop-b-preserved
+loop-b-preserved c =
+    hex_turn _ _ _ c.loop-b.invariant _ _ _ c.loop-b-test.true c.digit.ensures c.digit-in-loop-b.ensures c.put_bytes.ensures
 
 pub returns : goal.returns
-returns c =
-    let h = hex_first c.args.bytes.now _ _ _ (omega (arith, c.hex-2.auto.out)) (le_of_lt c.if-bytes-le32.false) c.hex-2.ensures in
-    record { prefix_len = h.0; put = h.1 }
-
-pub slice_bounds-hex-end-2 : goal.slice_bounds-hex-end-2
-slice_bounds-hex-end-2 c = sym (length-take-le 32 c.args.bytes.now (le_of_lt c.if-bytes-le32.false))
+returns c = hex_end c.args.bytes.now _ c.min.result _ c.min.ensures c.loop-b-test.false c.loop-b.invariant

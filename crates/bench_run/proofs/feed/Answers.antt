@@ -8,5 +8,4 @@ returns-then-is_over g c = λ rest s k.
 
 pub loop-at-preserved : goal.loop-at-preserved
 loop-at-preserved g c = λ rest s k.
-    rw c.left_by-b.ensures
-    (wrote_then _ _ _ _ _ _ _ _ _ _ (c.loop-at.invariant rest s k) c.in_ok-say.ensures (c.next-t.ensures.by_index rest))
+    wrote_then _ _ _ _ _ _ _ _ _ _ (c.loop-at.invariant rest s k) (rw c.as_slice.ensures.value at c.in_ok-say.ensures) (c.next-turn.ensures.by_index rest)

@@ -1,9 +1,11 @@
-use Rattle.bench_run.proofs.Writes.{on_ok, finished}
+use Rattle.std.proofs.Common.{refl}
+use Rattle.bench_run.proofs.Writes.{finished}
 use Rattle.bench_run.proofs.finish.Goals as goal
 
 pub returns : goal.returns
-returns g c =
-    let close = rw c.left_by-bench.ensures at c.close-r.ensures.room in
-    on_ok c.show.result c.show.ensures
-    (λ shown. finished _ _ _ _ _ _ _ _ _ (c.last-t.ensures.goes, c.last-t.ensures.held_value) (close _ _ _ _) c.in_ok-say.ensures
-    c.in_ok-say-2.ensures shown)
+returns g c = (
+  refl,
+  finished _ _ _ _ _ c.last-text.new.self _ _ _ _ (c.last-text.ensures.goes, c.last-text.ensures.held) c.close-rest.ensures
+      (rw c.as_slice.ensures.value at c.in_ok-say.ensures) (rw c.as_slice-2.ensures.value at c.in_ok-say-2.ensures) c.in_ok-show.ensures
+      refl refl refl refl,
+)

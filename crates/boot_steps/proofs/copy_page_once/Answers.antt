@@ -11,5 +11,5 @@ returns c =
     let a = c.args in
     step_on _ a.g a.unit a.c a.source.now _ _ a.state.now _
     c.copy_page.ensures _ _ _
-    c.in-On.is
+    c.in-Ok.is
     c.update_progress.ensures

@@ -21,12 +21,12 @@ returns-in-ToDfu c =
 pub copy_page_once_to_active-requires : goal.copy_page_once_to_active-requires
 copy_page_once_to_active-requires c =
     let p = c.requires in
-    room_to_active p.0 p.1 p.2 c.step-c.ensures c.in_default.is
+    room_to_active p.0 p.1 p.2 c.step-c.ensures c.in-ToActive.is
 
-pub returns : goal.returns
-returns c =
+pub returns-in-ToActive : goal.returns-in-ToActive
+returns-in-ToActive c =
     let a = c.args in
     ran_to_active a.g _ a.active.now a.dfu.now a.state.now _ _
     c.step-c.ensures _
-    c.in_default.is
+    c.in-ToActive.is
     c.copy_page_once_to_active.ensures

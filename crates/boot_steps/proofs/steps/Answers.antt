@@ -37,14 +37,14 @@ pub loop-next-smaller : goal.loop-next-smaller
 loop-next-smaller c =
     let h = c.loop-next-test.true in
     omega
-    (arith, h, further c.loop-next.invariant h c.run_step.ensures c.in-On.is c.first_open-next.ensures)
+    (arith, h, further c.loop-next.invariant h c.run_step.ensures c.in-Ok.is c.first_open-next.ensures)
 
 pub loop-next-preserved : goal.loop-next-preserved
 loop-next-preserved c =
     let i = c.loop-next.invariant in
     going_turn i
     c.loop-next-test.true
-    c.run_step.ensures c.in-On.is c.first_open-next.ensures c.run_step.auto.active c.run_step.auto.dfu
+    c.run_step.ensures c.in-Ok.is c.first_open-next.ensures c.run_step.auto.active c.run_step.auto.dfu
     c.run_step.auto.state
 
 pub returns : goal.returns

@@ -3,4 +3,4 @@ use Rattle.packed.proofs.Packs.{tells}
 use Rattle.boundary_checks.proofs.check_and_mark_updated.Goals as goal
 
 pub returns : goal.returns
-returns c = tells (rw c.new-updater.ensures.0 at c.check_and_mark_updated.ensures) c.pack.ensures
+returns c = tells (rw c.new-updater.ensures.sizes at c.check_and_mark_updated.ensures) c.pack.ensures

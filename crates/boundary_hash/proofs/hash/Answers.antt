@@ -3,4 +3,4 @@ use Rattle.boundary_hash.proofs.Tells.{tells_hash}
 use Rattle.boundary_hash.proofs.hash.Goals as goal
 
 pub returns : goal.returns
-returns c = tells_hash _ (rw c.new-updater.ensures.0 at c.hash-answer.ensures) c.pack.ensures
+returns c = tells_hash _ (rw c.new-updater.ensures.sizes at c.hash-answer.ensures) c.pack.ensures

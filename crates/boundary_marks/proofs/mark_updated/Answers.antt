@@ -4,4 +4,4 @@ use Rattle.packed.proofs.Packs.{tells}
 use Rattle.boundary_marks.proofs.mark_updated.Goals as goal
 
 pub returns : goal.returns
-returns c = tells (rw c.updater.ensures at c.mark_updated.ensures) c.pack.ensures
+returns c = tells (rw c.new.ensures.sizes at c.mark_updated.ensures) c.pack.ensures

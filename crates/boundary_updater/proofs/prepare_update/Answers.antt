@@ -4,4 +4,4 @@ use Rattle.packed.proofs.Packs.{tells}
 use Rattle.boundary_updater.proofs.prepare_update.Goals as goal
 
 pub returns : goal.returns
-returns c = tells (rw c.updater.ensures.0 at c.prepare_update-wrote.ensures.did) c.pack.ensures
+returns c = tells (rw c.new.ensures.sizes at c.prepare_update-written.ensures.did) c.pack.ensures

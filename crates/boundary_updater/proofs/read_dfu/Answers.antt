@@ -4,4 +4,6 @@ use Rattle.packed.proofs.Packs.{tells_read}
 use Rattle.boundary_updater.proofs.read_dfu.Goals as goal
 
 pub returns : goal.returns
-returns c = tells_read _ (rw c.updater.ensures.0 at c.read_dfu.ensures) c.pack.ensures
+returns c =
+    let e = c.new.ensures.sizes in
+    tells_read _ (rw e at c.read_dfu.ensures.answer, rw e at c.read_dfu.ensures.buffer) c.pack.ensures

@@ -1,11 +1,10 @@
 use mathlib.Core.Path.{◌≡◌}
-use Prim.Native.Nat.{◌-◌, ◌≤◌}
-use lib.ListN.{take}
+use mathlib.Core.List.{List, ◌++◌}
+use Prim.Native.Nat.{ℕ}
+use Rattle.std.specs.Slice.Iter.{chunks_rest}
 use Rattle.sha512.specs.Streams.{holding}
 use Rattle.firmware_hash.proofs.stream.Given as goal
 
-abbrev pub invariant-loop-at : goal.invariant-loop-at
-invariant-loop-at l = (l.at ≤ l.len) × (l.s ≡ holding (take l.at l.dfu))
-
-abbrev pub decreases-loop-at : goal.decreases-loop-at
-decreases-loop-at l = l.len - l.at
+-- the bytes that were added, and those to come, are all
+abbrev pub invariant-loop-piece : goal.invariant-loop-piece
+invariant-loop-piece l = (m : List ℕ) × (l.s ≡ holding m) × (m ++ chunks_rest l.piece-iterator ≡ l.bytes)

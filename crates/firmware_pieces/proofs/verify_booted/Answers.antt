@@ -1,19 +1,20 @@
-use Rattle.rules.specs.FirmwareUpdater.{is_swap}
-use Rattle.firmware_pieces.proofs.Verdicts.{booted_is}
+-- `verify_booted`: the state read is not Swap. Assumes nothing.
+use mathlib.Core.Path.{◌≡◌, refl, ap, ◌∙◌}
+use mathlib.Core.Bool.{not}
+use denote.Enum.Bare.{sameb}
+use Rattle.state.specs.declared.State.{State}
+use Rattle.state.specs.declared.State.TheVariants.{Boot, Swap, Revert, DfuDetach}
+use Rattle.state.specs.contracts.State.{the_type}
+use Rattle.rules.specs.FirmwareUpdater.{is_swap, pending}
 use Rattle.firmware_pieces.proofs.verify_booted.Goals as goal
 
-pub returns-in-Swap : goal.returns-in-Swap
+same_swap : (s : State) → sameb the_type s Swap ≡ is_swap s
 unfolding is_swap
-returns-in-Swap c = booted_is _ _ c.read-found.ensures c.in-Swap.is
+same_swap Boot = refl
+same_swap Swap = refl
+same_swap Revert = refl
+same_swap DfuDetach = refl
 
-pub returns-in-Boot : goal.returns-in-Boot
-unfolding is_swap
-returns-in-Boot c = booted_is _ _ c.read-found.ensures c.in-Boot.is
-
-pub returns-in-Revert : goal.returns-in-Revert
-unfolding is_swap
-returns-in-Revert c = booted_is _ _ c.read-found.ensures c.in-Revert.is
-
-pub returns-in-DfuDetach : goal.returns-in-DfuDetach
-unfolding is_swap
-returns-in-DfuDetach c = booted_is _ _ c.read-found.ensures c.in-DfuDetach.is
+pub returns : goal.returns
+unfolding pending
+returns c = c.ne.ensures ∙ ap not (same_swap _ ∙ ap is_swap c.read.ensures)

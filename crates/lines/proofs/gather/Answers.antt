@@ -1,27 +1,30 @@
--- `gather`: what is held is what came before, and after it the bytes of the piece that are passed. Assumes nothing.
-use native.Mathlib.Omega.{arith}
-use borrow.Author.Rules.{rules}
-use Rattle.lines.proofs.Gathered.{over, begins, ends_line, ends_piece, too_long, goes_on, still_long}
+-- `gather`: what the copied part of the piece makes of what is held. Assumes nothing.
+use Rattle.std.proofs.Common.{arith, ◌≡◌, ◌<◌, ◌-◌, ◌+◌, length, refl}
+use Rattle.lines.proofs.Gathered.{rest_is, over, too_long, ends_line, ends_piece}
 use Rattle.lines.proofs.gather.Goals as goal
 
-pub returns-then-n-held : goal.returns-then-n-held
-returns-then-n-held c = over _ _ _ _ c.if-n-held.true
+pub returns-in_default : goal.returns-in_default
+returns-in_default c =
+    let l : length c.args.held.now < c.args.n = omega (arith, c.in_default.ensures) in
+    over _ _ _ _ l
 
-pub loop-i-init : goal.loop-i-init
-loop-i-init c = (search rules, begins _ _ _ _ c.if-n-held.false)
+pub returns-then-k-room : goal.returns-then-k-room
+returns-then-k-room c =
+    let r = rest_is c.args.piece.now c.args.at c.get.result _ c.unwrap_or-rest.result c.get.ensures.lookup refl c.unwrap_or-rest.ensures in
+    let w : c.args.n + c.min-fits.result - c.args.n ≡ c.min-fits.result = omega arith in
+    too_long _ c.args.piece.now _ _ c.args.at c.find-k.result _ _ _ (rw r at c.find-k.ensures.value) c.in-Some.ensures.0
+    c.in-Some.ensures.1 c.min-fits.ensures w (rw r at c.copy_from_slice.ensures.after) c.if-k-room.true
 
-pub returns-then-piece-i-eq-LINE_FEED : goal.returns-then-piece-i-eq-LINE_FEED
-returns-then-piece-i-eq-LINE_FEED c = ends_line _ _ _ _ _ _ _ c.loop-i.invariant.1 c.loop-i-test.true c.if-piece-i-eq-LINE_FEED.true
+pub returns-then-k-rest : goal.returns-then-k-rest
+returns-then-k-rest c =
+    let r = rest_is c.args.piece.now c.args.at c.get.result _ c.unwrap_or-rest.result c.get.ensures.lookup refl c.unwrap_or-rest.ensures in
+    let w : c.args.n + c.min-fits.result - c.args.n ≡ c.min-fits.result = omega arith in
+    ends_line _ c.args.piece.now _ _ c.args.at c.find-k.result _ _ _ (rw r at c.find-k.ensures.value) c.in-Some.ensures.0
+    c.in-Some.ensures.1 c.min-fits.ensures w (rw r at c.copy_from_slice.ensures.after) c.if-k-room.false (rw r at c.if-k-rest.true)
 
-pub returns-then-m-held : goal.returns-then-m-held
-returns-then-m-held c = too_long _ _ _ _ _ _ _ c.loop-i.invariant.1 c.loop-i-test.true c.if-piece-i-eq-LINE_FEED.false (omega (arith, c.if-m-held.true, c.loop-i.invariant.0))
-
-pub loop-i-preserved : goal.loop-i-preserved
-loop-i-preserved c =
-    let l = c.loop-i in
-    let h = c.loop-i-test.true in
-    let o = c.if-piece-i-eq-LINE_FEED.false in
-    (still_long _ _ _ _ _ _ _ l.invariant.1 h o l.invariant.0, goes_on _ _ _ _ _ _ _ l.invariant.1 h o (omega (arith, c.if-m-held.false, l.invariant.0)))
-
-pub returns : goal.returns
-returns c = ends_piece _ _ _ _ _ _ _ c.loop-i.invariant.1 c.loop-i-test.false
+pub returns-else-k-rest : goal.returns-else-k-rest
+returns-else-k-rest c =
+    let r = rest_is c.args.piece.now c.args.at c.get.result _ c.unwrap_or-rest.result c.get.ensures.lookup refl c.unwrap_or-rest.ensures in
+    let w : c.args.n + c.min-fits.result - c.args.n ≡ c.min-fits.result = omega arith in
+    ends_piece _ c.args.piece.now _ _ c.args.at c.find-k.result _ _ _ (rw r at c.find-k.ensures.value) c.in-Some.ensures.0
+    c.in-Some.ensures.1 c.min-fits.ensures w (rw r at c.copy_from_slice.ensures.after) c.if-k-room.false (rw r at c.if-k-rest.false)

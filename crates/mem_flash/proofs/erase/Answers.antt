@@ -1,17 +1,23 @@
-use Prim.Native.Nat.{◌-◌}
-use native.Mathlib.Nat.{div-mul-le_self}
+use mathlib.Core.Path.{refl, ◌∙◌}
 use native.Mathlib.Omega.{arith}
-use Rattle.mem_flash.proofs.Runs.{erase_unitless, erase_nothing, erase_all}
+use Rattle.mem_flash.proofs.Runs.{cut_of, unit_on, unit_cut, units_none, erase_of_units}
 use Rattle.mem_flash.proofs.erase.Goals as goal
 
-pub returns-then-unit-eq0 : goal.returns-then-unit-eq0
-returns-then-unit-eq0 c = erase_unitless _ _ _ _ _ _ c.if-unit-eq0.true
+pub returns-in_err-still : goal.returns-in_err-still
+returns-in_err-still c =
+    λ a f.
+    rw (cut_of _ c.from_residual.ensures.0)
+    (erase_of_units _ _ _ _ _ _ _ _ _ _ _ c.saturating_sub.ensures c.checked_div.ensures c.unwrap_or-count.ensures
+    (c.loop-i.invariant a f ∙ unit_cut _ _ _ _ _ _ _ _ _ _ c.erase_unit.ensures refl c.loop-i-test.true c.in_err-still.was a f))
 
-pub returns-then-to-from : goal.returns-then-to-from
-returns-then-to-from c = erase_nothing _ _ _ _ _ _ (omega (arith, c.if-to-from.true))
-
-pub erase_units-requires : goal.erase_units-requires
-erase_units-requires c = let a = c.args in omega (arith, div-mul-le_self (a.to.0 - a.from.0) a.unit, c.if-to-from.false)
+pub loop-i-preserved : goal.loop-i-preserved
+loop-i-preserved c =
+    λ a f.
+    c.loop-i.invariant a f
+    ∙ unit_on _ _ _ _ _ _ _ _ _ _ c.erase_unit.ensures (omega arith) c.loop-i-test.true _ c.in_ok-still.was a f
 
 pub returns : goal.returns
-returns c = let a = c.args in erase_all _ _ a.unit a.from.0 (a.to.0 - a.from.0) _ _ _ c.erase_units.ensures
+returns c =
+    λ a f.
+    erase_of_units _ _ _ _ _ _ _ _ _ _ _ c.saturating_sub.ensures c.checked_div.ensures c.unwrap_or-count.ensures
+    (c.loop-i.invariant a f ∙ units_none _ _ _ _ _ _ (omega (arith, c.loop-i-test.false)) a f)

@@ -1,11 +1,12 @@
-use mathlib.Core.Path.{◌∙◌}
-use Rattle.mem_flash.proofs.Bytes.{erase_clip}
-use Rattle.mem_flash.proofs.Runs.{cut_erase, on_erase}
 use borrow.Author.Rules.{rules}
+use Rattle.mem_flash.proofs.Bytes.{erase_part}
+use Rattle.mem_flash.proofs.Runs.{cut_of, cut_erase, on_erase}
 use Rattle.mem_flash.proofs.erase_unit.Goals as goal
 
-pub returns-then-k-eq0 : goal.returns-then-k-eq0
-returns-then-k-eq0 c = cut_erase _ _ _ _ _ c.if-k-eq0.true
+pub returns-in_err-rest : goal.returns-in_err-rest
+returns-in_err-rest c = rw (cut_of _ c.from_residual.ensures.0) (cut_erase _ _ _ _ _ c.in_err-rest.ensures.err)
 
 pub returns : goal.returns
-returns c = on_erase _ _ _ _ (search rules) _ _ (c.fill.ensures _ c.erased.ensures ∙ erase_clip _ _ _ _ _ c.least-stop.ensures)
+returns c =
+    on_erase _ _ _ _ _ (search rules) _ _
+    (erase_part _ _ _ _ _ _ _ _ c.within-range.ensures.start c.within-range.ensures.end c.erased.ensures (c.fill.ensures.after (search rules)))

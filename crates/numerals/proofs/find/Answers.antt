@@ -1,13 +1,13 @@
--- `find`: what is left to pass, from where the search is, ends where the whole search ends. Assumes nothing.
-use native.Mathlib.Omega.{arith}
-use Rattle.numerals.proofs.Splits.{first_here, first_turn, first_end}
+-- `find`: std's search ends where the first c stands. Assumes nothing.
+use Rattle.std.proofs.Common.{rules, tests, nat_eq}
+use Rattle.std.proofs.lemmas.Iterator.{YieldsList-from_slice}
+use Rattle.std.proofs.lemmas.Iterator.Search.{position_from_yields_List}
+use Rattle.numerals.proofs.Splits.{first_le, first_found}
 use Rattle.numerals.proofs.find.Goals as goal
 
-pub returns-then-s-i : goal.returns-then-s-i
-returns-then-s-i c = omega (arith, first_here c.loop-i.i c.args.c c.args.s.now c.loop-i-test.true c.if-s-i.true)
-
-pub loop-i-preserved : goal.loop-i-preserved
-loop-i-preserved c = omega (arith, first_turn c.loop-i.i c.args.c c.args.s.now c.loop-i-test.true c.if-s-i.false)
-
 pub returns : goal.returns
-returns c = omega (arith, first_end c.loop-i.i c.args.c c.args.s.now c.loop-i-test.false)
+returns c =
+    let y = YieldsList-from_slice c.args.s.now c.iter.ensures.rest in
+    let p = position_from_yields_List (λ b. nat_eq b c.args.c) _ _ c.position.result c.position.ensures.ran y (λ x b q k. search (rules, tests)) in
+    let f = first_found c.args.c c.args.s.now c.position.result c.unwrap_or.result p c.unwrap_or.ensures in
+    record { value = f; bound = rw f (first_le c.args.c c.args.s.now) }

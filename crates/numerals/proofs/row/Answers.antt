@@ -1,42 +1,37 @@
 -- `row`: the numbers put so far, ahead of those that the rest of the line is, are those that the whole line is. Assumes nothing.
-use mathlib.Core.Path.{◌≡◌, ◌∙◌, sym, ap}
-use Prim.Native.Nat.{◌-◌}
-use native.Mathlib.Omega.{arith}
-use lib.ListN.{length, length-set}
-use borrow.Author.Rules.{rules}
-use Rattle.numerals.specs.Text.{numeral_of}
-use Rattle.numerals.proofs.Rows.{Read, row_begins, row_many, row_within, row_not, row_last, row_next}
+use Rattle.std.proofs.Common.{rules, arith, ◌∙◌}
+use Rattle.std.proofs.lemmas.List.{length-replicate}
+use Rattle.numerals.proofs.Rows.{row_begins, words_cut, row_few, row_all, row_many, row_not, row_turn}
 use Rattle.numerals.proofs.row.Goals as goal
 
-pub loop-i-init : goal.loop-i-init
-loop-i-init c = (row_begins _ _, search rules)
+pub loop-n-init : goal.loop-n-init
+loop-n-init g c = (length-replicate _ _, search rules, row_begins _ _)
 
-pub slice_bounds-number-end : goal.slice_bounds-number-end
-slice_bounds-number-end c = row_within c.loop-i.invariant.0 c.find-e.ensures
+pub returns-in_err-left : goal.returns-in_err-left
+returns-in_err-left g c =
+    let i = c.loop-n.invariant in
+    let r = rw c.in_err-left.was at i.2 in
+    c.from_residual.ensures ∙ row_few _ i.0 r (omega arith)
 
-pub returns-in_default : goal.returns-in_default
-unfolding numeral_of
-returns-in_default c = row_not c.loop-i.invariant.0 c.find-e.ensures _ (ap numeral_of (sym c.in_default.is) ∙ c.number.ensures)
+pub returns-in_err-n : goal.returns-in_err-n
+returns-in_err-n g c =
+    let r = rw c.in_ok-left.was at c.loop-n.invariant.2 in
+    c.from_residual-in_err-n.ensures ∙ row_not _ _ _ r (words_cut _ _ _ c.cut.ensures) _ c.in_err-n.ensures
 
-pub returns-then-e-line : goal.returns-then-e-line
-unfolding numeral_of
-returns-then-e-line c =
-    let l = c.loop-i in
-    let w = ap numeral_of (sym c.in-Is.is) ∙ c.number.ensures in
-    row_last l.invariant.0 c.find-e.ensures _ w c.loop-i-test.true _ c.if-e-line.true l.invariant.1
+pub loop-n-preserved : goal.loop-n-preserved
+loop-n-preserved g c =
+    let i = c.loop-n.invariant in
+    let r = rw c.in_ok-left.was at i.2 in
+    (search rules, search rules, row_turn _ _ _ r (words_cut _ _ _ c.cut.ensures) _ c.in_ok-n.ensures (omega arith))
 
-pub overflow_add-at : goal.overflow_add-at
-overflow_add-at c = omega (arith, row_within c.loop-i.invariant.0 c.find-e.ensures)
+pub returns-in-Some : goal.returns-in-Some
+returns-in-Some g c =
+    let i = c.loop-n.invariant in
+    let r = rw c.in-Some.is at i.2 in
+    row_many _ _ i.0 r (omega arith)
 
-pub loop-i-smaller : goal.loop-i-smaller
-loop-i-smaller c = simp length-set (omega (arith, c.loop-i-test.true))
-
-pub loop-i-preserved : goal.loop-i-preserved
-unfolding numeral_of
-loop-i-preserved c =
-    let l = c.loop-i in
-    let w = ap numeral_of (sym c.in-Is.is) ∙ c.number.ensures in
-    (row_next l.invariant.0 c.find-e.ensures _ w c.loop-i-test.true c.if-e-line.false, simp length-set l.invariant.1)
-
-pub returns : goal.returns
-returns c = row_many _ c.loop-i.invariant.0 c.loop-i-test.false c.loop-i.invariant.1
+pub returns-in-None : goal.returns-in-None
+returns-in-None g c =
+    let i = c.loop-n.invariant in
+    let r = rw c.in-None.is at i.2 in
+    row_all _ i.0 r (omega arith)

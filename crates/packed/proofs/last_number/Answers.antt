@@ -9,6 +9,6 @@ pub returns-in-None : goal.returns-in-None
 unfolding last_number no_sector
 returns-in-None c = search rules
 
-pub returns-in-At : goal.returns-in-At
+pub returns-in-Some : goal.returns-in-Some
 unfolding last_number no_sector
-returns-in-At c = c.least.ensures ∙ sym (ap last_number c.in-At.is)
+returns-in-Some c = c.min.ensures ∙ sym (ap last_number c.in-Some.is)

@@ -7,6 +7,6 @@ use Rattle.state_area.proofs.most_marks.Goals as goal
 pub returns-then-ws-eq0 : goal.returns-then-ws-eq0
 returns-then-ws-eq0 c = sym (no_words _ _ c.if-ws-eq0.true)
 
-pub returns : goal.returns
+pub returns-else-ws-eq0 : goal.returns-else-ws-eq0
 unfolding words
-returns c = search rules
+returns-else-ws-eq0 c = search rules

@@ -1,22 +1,18 @@
 use Rattle.mem_flash.specs.Run.{flash}
-use Rattle.rules.proofs.Did.{on_low}
-use Rattle.boot_loader.proofs.Boots.{booted, boot_refused, boot_admits, boot_cut, boot_found}
+use Rattle.rules.proofs.Did.{left_low}
+use Rattle.boot_loader.proofs.Boots.{boot_refused, boot_admits, booted}
 use Rattle.boot_loader.proofs.BootLoader.prepare_boot.Goals as goal
 
-pub returns-in-Refused : goal.returns-in-Refused
-returns-in-Refused c = boot_refused _ _ c.boot_verdict-verdict.ensures c.in-Refused.is
+pub returns-in_err-boot_verdict : goal.returns-in_err-boot_verdict
+returns-in_err-boot_verdict c = boot_refused _ _ c.boot_verdict.ensures c.in_err-boot_verdict.was _ c.from_residual.ensures.1
 
-pub perform-requires : goal.perform-requires
-perform-requires c =
+pub perform-ended-requires : goal.perform-ended-requires
+perform-ended-requires c =
     let a = c.args in
-    boot_admits _ (flash a.active.now a.dfu.now a.state.now)
-    c.boot_verdict-verdict.ensures c.in_default.is
+    boot_admits _ (flash a.active.now a.dfu.now a.state.now) c.boot_verdict.ensures c.in_ok-boot_verdict.was
 
-pub returns-in_default-perform : goal.returns-in_default-perform
-returns-in_default-perform c = boot_cut (booted _ _ c.boot_verdict-verdict.ensures c.in_default.is c.read-found.ensures c.perform.ensures) c.in_default-perform.is
-
-pub overflow_sub-count : goal.overflow_sub-count
-overflow_sub-count c = on_low _ _ _ _ _ c.perform.ensures _ c.in-On.is
+pub answer-requires : goal.answer-requires
+answer-requires c = left_low _ _ _ _ _ c.perform-ended.ensures
 
 pub returns : goal.returns
-returns c = boot_found (booted _ _ c.boot_verdict-verdict.ensures c.in_default.is c.read-found.ensures c.perform.ensures) c.in-On.is
+returns c = booted _ _ c.boot_verdict.ensures c.in_ok-boot_verdict.was c.read-found.ensures c.perform-ended.ensures c.answer.ensures

@@ -1,17 +1,21 @@
 use mathlib.Core.Path.{◌≡◌}
 use mathlib.Core.List.{List}
-use Prim.Native.Nat.{ℕ, ◌+◌, ◌-◌, ◌≤◌}
+use Prim.Native.Nat.{ℕ, ◌+◌, ◌<◌, ◌≤◌}
 use lib.ListN.{length}
-use Rattle.mem_flash.specs.declared.Flow.{Flow}
-use Rattle.rules.specs.declared.Sector.{Sector}
+use Rattle.mem_flash.specs.Run.{Flow}
+use Rattle.rules.specs.FirmwareUpdater.{Sector, pieces, pieces_ops}
 use Rattle.firmware_pieces.specs.Wrote.{WroteBy}
-use Rattle.firmware_pieces.proofs.Loop.{rest_ops}
 use Rattle.firmware_pieces.proofs.pieces.write_pieces.Given as goal
 
-abbrev pub invariant-loop-done : goal.invariant-loop-done
-invariant-loop-done l = (l.done ≤ length l.data) × (l.at ≡ l.initial.at + l.done) × (length l.dfu ≡ length l.initial.dfu)
-    × ((m₂ : Sector) (xs₂ : List ℕ) (q : Flow) → WroteBy l.still.0 l.ed (rest_ops l.cell l.ed l.memory l.at l.done l.data) l.memory m₂ l.dfu xs₂ q
-    → WroteBy l.initial.still.0 l.ed (rest_ops l.cell l.ed l.initial.memory l.initial.at 0 l.data) l.initial.memory m₂ l.initial.dfu xs₂ q)
+-- what is left of the data lies in DFU; and the rest, written from here, is the whole
+abbrev pub invariant-loop-rest : goal.invariant-loop-rest
+invariant-loop-rest l =
+    record {
+      units : length l.dfu ≡ length l.initial.dfu;
+      rest_in : 0 < length l.rest → l.at + length l.rest ≤ length l.dfu;
+      whole : (m : Sector) (xs : List ℕ) (q : Flow) → WroteBy l.still.0 l.ed (pieces_ops l.cell l.ed l.last (pieces l.ed l.at l.rest)) l.last m l.dfu xs q
+          → WroteBy l.initial.still.0 l.ed (pieces_ops l.cell l.ed l.initial.last (pieces l.ed l.initial.at l.initial.rest)) l.initial.last m l.initial.dfu xs q;
+    }
 
-abbrev pub decreases-loop-done : goal.decreases-loop-done
-decreases-loop-done l = length l.data - l.done
+abbrev pub decreases-loop-rest : goal.decreases-loop-rest
+decreases-loop-rest l = length l.rest

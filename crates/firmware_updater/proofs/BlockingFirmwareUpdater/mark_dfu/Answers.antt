@@ -1,11 +1,12 @@
 -- `mark_dfu`: the mark, at the updater's verdict. Assumes nothing.
-use Rattle.state.specs.declared.State.TheVariants.{DfuDetach}
-use Rattle.rules.specs.FirmwareUpdater.{pending, updater_mark_dfu}
-use Rattle.firmware_updater.proofs.Answers.{mark_did}
+use mathlib.Core.Path.{refl}
+use mathlib.Core.List.{[]}
+use Rattle.mem_flash.specs.Run.{flash}
+use Rattle.rules.specs.FirmwareUpdater.{updater_mark_dfu, updater_mark, updater_call}
 use Rattle.firmware_updater.proofs.BlockingFirmwareUpdater.mark_dfu.Goals as goal
 
 pub returns : goal.returns
-unfolding updater_mark_dfu
+unfolding updater_mark_dfu updater_mark updater_call
 returns c =
     let a = c.args in
-    mark_did DfuDetach (pending a.self.sizes.state a.state.now) a.self.sizes a.dfu.now a.state.now _ _ c.mark.ensures c.booted_verdict-judged.ensures
+    c.mark.ensures (updater_mark_dfu a.self.sizes (flash [] a.dfu.now a.state.now)) [] a.dfu.now c.booted_verdict-judged.ensures refl refl

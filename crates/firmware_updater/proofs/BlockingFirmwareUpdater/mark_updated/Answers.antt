@@ -1,12 +1,12 @@
 -- `mark_updated`: the mark, at the updater's verdict. Assumes nothing.
-use mathlib.Core.Bool.{false}
-use Rattle.state.specs.declared.State.TheVariants.{Swap}
-use Rattle.rules.specs.FirmwareUpdater.{updater_mark_updated}
-use Rattle.firmware_updater.proofs.Answers.{mark_did}
+use mathlib.Core.Path.{refl}
+use mathlib.Core.List.{[]}
+use Rattle.mem_flash.specs.Run.{flash}
+use Rattle.rules.specs.FirmwareUpdater.{updater_mark_updated, updater_mark, updater_call}
 use Rattle.firmware_updater.proofs.BlockingFirmwareUpdater.mark_updated.Goals as goal
 
 pub returns : goal.returns
-unfolding updater_mark_updated
+unfolding updater_mark_updated updater_mark updater_call
 returns c =
     let a = c.args in
-    mark_did Swap false a.self.sizes a.dfu.now a.state.now _ _ c.mark.ensures c.updater_verdict-judged.ensures
+    c.mark.ensures (updater_mark_updated a.self.sizes (flash [] a.dfu.now a.state.now)) [] a.dfu.now c.updater_verdict-judged.ensures refl refl

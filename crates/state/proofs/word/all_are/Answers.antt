@@ -1,13 +1,11 @@
-use mathlib.Core.Path.{◌∙◌, sym}
-use Rattle.state.proofs.Words.{all_turn, all_not, all_end}
-use borrow.Author.Rules.{rules}
+use lib.Dec.{eqb}
+use Rattle.std.proofs.Common.{rules, tests}
+use Rattle.std.proofs.lemmas.Iterator.{YieldsList-from_slice}
+use Rattle.std.proofs.lemmas.Iterator.Search.{all_from_yields_List}
+use Rattle.state.proofs.Words.{by_all}
 use Rattle.state.proofs.word.all_are.Goals as goal
 
-pub returns-then-word-i : goal.returns-then-word-i
-returns-then-word-i c = sym (sym c.loop-i.invariant.1 ∙ all_not _ _ _ c.loop-i-test.true c.if-word-i.true)
-
-pub loop-i-preserved : goal.loop-i-preserved
-loop-i-preserved c = (search rules, all_turn _ _ _ c.loop-i-test.true c.if-word-i.false ∙ c.loop-i.invariant.1)
-
 pub returns : goal.returns
-returns c = sym (sym c.loop-i.invariant.1 ∙ all_end _ _ _ c.loop-i-test.false)
+returns c =
+    let a = c.args in
+    by_all a.value a.word.now (all_from_yields_List (λ x. eqb x a.value) _ _ _ c.all.ensures.ran (YieldsList-from_slice a.word.now cc) (λ x b q k. search (rules, tests)))
