@@ -64,7 +64,7 @@ impl Lengths {
     }
 }
 
-// The numbers at the head of a record.
+// The numbers at the head of a record, as the sample has them: a kind that is unknown is told only where the record is replayed.
 #[derive(Clone, Copy)]
 struct Head {
     kind: u32,
