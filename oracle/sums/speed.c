@@ -1,7 +1,8 @@
 /* Times the library's sum beside zlib's and beside the same table loop in C, and its digest beside sha512sum and libcrypto's, by turns
  * in one run: medians, in microseconds. sha512sum is timed as a program that reads a file; the file lies in memory by then.
  * `../speed-sums` compiles and runs it. */
-#define _POSIX_C_SOURCE 200809L
+/* XSI, since it names the folder of files that do not stay. */
+#define _XOPEN_SOURCE 700
 #include "embassy_boot.h"
 
 #include <dlfcn.h>
@@ -119,7 +120,7 @@ static void digests(void)
     unsigned char *(*libcrypto)(const unsigned char *, size_t, unsigned char *);
     uint8_t ours[64], theirs[64], printed[64];
     double times[4][RUNS], begin;
-    char file[] = "/tmp/speed-sums-XXXXXX";
+    char file[] = P_tmpdir "/speed-sums-XXXXXX";
     *(void **)&libcrypto = function("libcrypto.so.3", "SHA512");
     const int open_file = mkstemp(file);
     FILE *to = open_file < 0 ? NULL : fdopen(open_file, "wb");
