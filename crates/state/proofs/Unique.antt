@@ -9,8 +9,10 @@ use Rattle.state.proofs.State.magic.Kinds as magic_kinds
 use Rattle.state.proofs.State.magic.Reads as magic
 use Rattle.state.proofs.State.from_magic.Kinds as from_magic_kinds
 use Rattle.state.proofs.State.from_magic.Reads as from_magic
-use Rattle.state.proofs.StateFromRefSliceU8.from.Kinds as from_kinds
-use Rattle.state.proofs.StateFromRefSliceU8.from.Reads as from
+use Rattle.state.proofs.State.from.Kinds as from_kinds
+use Rattle.state.proofs.State.from.Reads as from
+use Rattle.state.proofs.StateFromRefSliceU8.from.Kinds as converted_kinds
+use Rattle.state.proofs.StateFromRefSliceU8.from.Reads as converted
 use Rattle.state.proofs.word.all_are.Kinds as all_are_kinds
 use Rattle.state.proofs.word.all_are.Reads as all_are
 
@@ -28,6 +30,9 @@ from_magic_unique κs a x y v w p q = (p ∙ sym q, refl)
 
 pub from_unique : OneResult from_kinds.ps from_kinds.r from.Post
 from_unique κs a x y v w p q = (p ∙ sym q, refl)
+
+pub converted_unique : OneResult converted_kinds.ps converted_kinds.r converted.Post
+converted_unique κs a x y v w p q = (p ∙ sym q, refl)
 
 pub all_are_unique : OneResult all_are_kinds.ps all_are_kinds.r all_are.Post
 all_are_unique κs a x y v w p q = (p ∙ sym q, refl)

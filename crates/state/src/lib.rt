@@ -85,17 +85,24 @@ impl State {
             _ => State::Boot,
         }
     }
-}
 
-// The state of a word: its bytes have to be one magic throughout. No bytes at all read Swap, as in the Rust.
-impl From<&[u8]> for State {
-    ghost from_gives = { λ word state. state ≡ state_of word.now };
-
-    fn from(word: &[u8]) -> State {
+    // The state of a word: its bytes have to be one magic throughout. No bytes at all read Swap, as in the Rust.
+    pub fn from(word: &[u8]) -> State
+        ensures { result ≡ state_of word.now }
+    {
         match word.first() {
             None => State::Swap,
             Some(byte) if word::all_are(word, *byte) => State::from_magic(*byte),
             Some(_) => State::Boot,
         }
+    }
+}
+
+// The same by the conversion's own name, as the Rust has it.
+impl From<&[u8]> for State {
+    ghost from_gives = { λ word state. state ≡ state_of word.now };
+
+    fn from(word: &[u8]) -> State {
+        State::from(word)
     }
 }

@@ -1,7 +1,7 @@
 use mathlib.Core.Path.{◌∙◌, sym}
 use Rattle.state.proofs.States.{none_swap, first_filled, first_mixed}
 use borrow.Author.Rules.{rules}
-use Rattle.state.proofs.StateFromRefSliceU8.from.Goals as goal
+use Rattle.state.proofs.State.from.Goals as goal
 
 pub returns-in-None : goal.returns-in-None
 returns-in-None c = none_swap _ (search rules)
