@@ -15,6 +15,10 @@ use Rattle.geometry.proofs.StateSizes.cell.Kinds as cell_kinds
 use Rattle.geometry.proofs.StateSizes.cell.Reads as cell
 use Rattle.geometry.proofs.Geometry.page_size.Kinds as page_size_kinds
 use Rattle.geometry.proofs.Geometry.page_size.Reads as page_size
+use Rattle.geometry.proofs.Page.offset.Kinds as page_offset_kinds
+use Rattle.geometry.proofs.Page.offset.Reads as page_offset
+use Rattle.geometry.proofs.Word.offset.Kinds as word_offset_kinds
+use Rattle.geometry.proofs.Word.offset.Reads as word_offset
 use Rattle.geometry.proofs.least.Kinds as least_kinds
 use Rattle.geometry.proofs.least.Reads as least
 
@@ -66,3 +70,9 @@ page_size_unique κs a x y v w p q = (p ∙ sym q, refl)
 
 pub least_unique : OneResult least_kinds.ps least_kinds.r least.Post
 least_unique κs a x y v w p q = (p ∙ sym q, refl)
+
+pub page_offset_unique : OneResult page_offset_kinds.ps page_offset_kinds.r page_offset.Post
+page_offset_unique κs a x y v w p q = (ap (λ o. record { 0 = o }) (p ∙ sym q), refl)
+
+pub word_offset_unique : OneResult word_offset_kinds.ps word_offset_kinds.r word_offset.Post
+word_offset_unique κs a x y v w p q = (ap (λ o. record { 0 = o }) (p ∙ sym q), refl)

@@ -116,8 +116,8 @@ impl Geometry {
     }
 }
 
-// The lesser of two numbers, what a range takes of the bytes that there are: `min` by another name. No crate calls it any
-// more; it stays since the edits least_is_first and least_is_most speak of it.
+// The lesser of two numbers, what a range takes of the bytes that there are: `min` by the name that the edits least_is_first and
+// least_is_most speak of.
 pub fn least(a: usize, b: usize) -> usize
     ensures { result ≡ min a b }
 {

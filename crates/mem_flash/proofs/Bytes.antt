@@ -9,7 +9,8 @@ use native.Mathlib.Omega.{arith}
 use lib.ListN.{length, get_or, take, drop, set, replicate, take-append-drop, length-drop, drop_of_length-le}
 use lib.Seq.{drop-cons, take_all}
 use borrow.Rule.Slice.PartMut.{put_mid}
-use Rattle.std.proofs.lemmas.List.{take_min, drop_min}
+use Rattle.std.proofs.lemmas.Grind.{same_number_lists}
+use Rattle.std.proofs.lemmas.List.{take_min, drop_min, get_or-replicate, length-replicate}
 use Rattle.state.specs.declared.Cell.{Cell}
 use Rattle.state.specs.Cells.{erased, programmed}
 use Rattle.mem_flash.specs.Flash.{blank, program, erased_at, written_at}
@@ -30,6 +31,11 @@ parts from n start end xs s e =
       held = rw k (take_min n (drop start xs)) ∙ ap (take n) d;
       behind = rw k (drop_min n (drop start xs)) ∙ ap (drop n) d;
     }
+
+pub all_set : (v : ℕ) (xs : List ℕ) → ((j : ℕ) → j < length xs → get_or xs j 0 ≡ v) → xs ≡ replicate (length xs) v
+all_set v xs e =
+    same_number_lists xs (replicate (length xs) v) (sym (length-replicate (length xs) v))
+    (λ j h. e j h ∙ sym (get_or-replicate (length xs) j v 0 h))
 
 module _ (c : Cell) where
   pub erase_none : (at : ℕ) (xs : List ℕ) → erased_at c at 0 xs ≡ xs

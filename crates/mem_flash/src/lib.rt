@@ -37,8 +37,8 @@ fn within(from: Offset, len: usize, room: usize) -> Range<usize>
     ensures start { result.start ≡ min from.0 room }
     ensures end { result.end ≡ result.start + min len (room - result.start) }
 {
-    let start = from.0.min(room);
-    start..start + len.min(room - start)
+    let start = geometry::least(from.0, room);
+    start..start + geometry::least(len, room - start)
 }
 
 // What a write leaves of a byte, by what a mark would be: old AND new where that is 00, old OR new where it is FF. Which of the two
@@ -47,6 +47,16 @@ fn merged(old: u8, new: u8, mark: u8) -> u8
     ensures { (c : Cells) → mark ≡ marked c → result ≡ programmed c old new }
 {
     (old & (new | mark)) | (new & mark)
+}
+
+// Sets each byte of a part to `value`. No `fill`: it stores the last byte by itself, behind the others, and where a small unit is written
+// as soon as it is erased the read of it waits for both.
+fn set_all(part: &mut [u8], value: u8)
+    ensures { part.new ≡ replicate (length part.old) value }
+{
+    for byte in part.iter_mut() {
+        *byte = value;
+    }
 }
 
 // Erases one unit: one operation.
@@ -61,7 +71,7 @@ fn erase_unit(
 {
     let rest = left.spend()?;
     let range = within(from, unit, area.len());
-    area[range].fill(cell.erased());
+    set_all(&mut area[range], cell.erased());
     Ok(rest)
 }
 

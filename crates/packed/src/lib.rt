@@ -79,6 +79,6 @@ pub fn last_number(memory: Option<usize>) -> u32
 {
     match memory {
         None => NO_SECTOR,
-        Some(s) => s.min(NO_SECTOR as usize) as u32,
+        Some(s) => geometry::least(s, NO_SECTOR as usize) as u32,
     }
 }

@@ -25,9 +25,9 @@ fn word_of(state: &[u8], w: Word, z: StateSizes) -> &[u8]
     requires { w.0 ≤ 1 }
     ensures { result.now ≡ word z w.0 state.now }
 {
-    let start = w.offset(z).0.min(state.len());
+    let start = geometry::least(w.offset(z).0, state.len());
     let rest = &state[start..];
-    let end = (z.ws as usize).min(rest.len());
+    let end = geometry::least(z.ws as usize, rest.len());
     &rest[..end]
 }
 

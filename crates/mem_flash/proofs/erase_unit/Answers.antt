@@ -9,4 +9,4 @@ returns-in_err-rest c = rw (cut_of _ c.from_residual.ensures.0) (cut_erase _ _ _
 pub returns : goal.returns
 returns c =
     on_erase _ _ _ _ _ (search rules) _ _
-    (erase_part _ _ _ _ _ _ _ _ c.within-range.ensures.start c.within-range.ensures.end c.erased.ensures (c.fill.ensures.after (search rules)))
+    (erase_part _ _ _ _ _ _ _ _ c.within-range.ensures.start c.within-range.ensures.end c.erased.ensures c.set_all.ensures)

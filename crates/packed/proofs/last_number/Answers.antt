@@ -11,4 +11,4 @@ returns-in-None c = search rules
 
 pub returns-in-Some : goal.returns-in-Some
 unfolding last_number no_sector
-returns-in-Some c = c.min.ensures ∙ sym (ap last_number c.in-Some.is)
+returns-in-Some c = c.least.ensures ∙ sym (ap last_number c.in-Some.is)
