@@ -26,6 +26,8 @@ pub fn copy_out(buf: &mut [u8], source: &[u8], from: Offset)
     requires { from.0 + length buf.old ≤ length source.now }
     ensures { buf.new ≡ take (length buf.old) (drop from.0 source.now) }
 {
-    let at = from.0;
-    buf.copy_from_slice(&source[at..at + buf.len()]);
+    // Not by copy_from_slice, of which the compiler makes a call of memmove: nothing else of the archive for C wants that name.
+    for (i, byte) in buf.iter_mut().enumerate() {
+        *byte = source[from.0 + i];
+    }
 }
