@@ -2,19 +2,20 @@
 use mathlib.Core.Path.{◌≡◌, refl, ap, sym, ◌∙◌}
 use mathlib.Core.Logic.{inl, inr}
 use mathlib.Core.Bool.{Bool, true, false}
-use mathlib.Core.List.{List, [], append_assoc}
-use Prim.Native.Nat.{ℕ, ◌+◌, ◌-◌, ◌≤◌, ◌<◌, min}
+use mathlib.Core.List.{List, [], ◌∷◌, append_assoc}
+use Prim.Native.Nat.{ℕ, zero, suc, ◌+◌, ◌-◌, ◌≤◌, ◌<◌, min}
 use native.Mathlib.Omega.{arith}
-use lib.Dec.{leb, ltb}
+use lib.Dec.{eqb, leb, ltb}
 use lib.ListN.{length, take, drop, length-drop, drop_of_length-le}
-use lib.Seq.{paste, paste-zero, drop-drop, take_all}
+use lib.Seq.{paste, paste-zero, drop-drop, take-take, take_all}
 use borrow.Author.Tests.{le-leb, lt-leb, lt-ltb, le-ltb, leb-true, leb-false, ltb-true, ltb-false}
 use borrow.Rule.Slice.PartMut.{put_mid}
-use Rattle.std.proofs.Common.{Option, None, Some, Bor}
+use Rattle.std.proofs.Common.{Option, None, Some, Bor, length-take}
 use Rattle.std.specs.Option.{unwrap_or}
 use Rattle.std.specs.Slice.{IsGetRangeResult}
 use Rattle.state.specs.Choice.{pick}
 use Rattle.numerals.specs.Text.{first}
+use Rattle.numerals.proofs.Splits.{first_le}
 use Rattle.lines.specs.declared.Taken.{Taken}
 use Rattle.lines.specs.declared.Taken.TheVariants.{Line, Part, Long}
 use Rattle.lines.specs.Lines.{line_feed, taken_at, held_then}
@@ -40,6 +41,18 @@ over before piece n at h =
     let f : length before < n + first line_feed (drop at piece) = omega arith in
     let q : min (first line_feed (drop at piece)) (length before - n) ≡ 0 = omega arith in
     (rw (lt-leb _ _ f) refl, rw q (paste-zero before n (drop at piece)))
+
+near_by : (t : Bool) (a m f : ℕ) → a ≡ min m f → pick t 0 (suc a) ≡ min (suc m) (pick t 0 (suc f))
+unfolding pick
+near_by true a m f h = omega arith
+near_by false a m f h = omega (arith, h)
+
+-- a search in the bytes that come first ends where they do, at the latest
+pub first_near : (c m : ℕ) (xs : List ℕ) → first c (take m xs) ≡ min m (first c xs)
+unfolding first
+first_near c zero xs = omega arith
+first_near c (suc m) [] = omega arith
+first_near c (suc m) (b ∷ bs) = near_by (eqb b c) (first c (take m bs)) m (first c bs) (first_near c m bs)
 
 wrote : (before rest : List ℕ) (n k : ℕ) → put_mid n k before (take k rest) ≡ paste before n rest k
 wrote before rest n k = rw (drop-drop k n before) (sym (append_assoc (take n before) (take k rest) (drop (n + k) before)))
@@ -72,6 +85,39 @@ module _ (before piece new : List ℕ) (n at k room fits len : ℕ) (ends : k �
       let f : n + k ≤ length before = omega arith in
       let h : length piece ≤ at + k = omega (arith, length-drop at piece) in
       (rw (← ends, le-leb _ _ f, le-ltb _ _ h) refl, holds)
+
+-- the same where no more of the piece is searched than there is room for, and one byte: `near` bytes, of which k come up to the line feed
+module _ (before piece new : List ℕ) (n at k room fits len near : ℕ) (ends : k ≡ first line_feed (take near (drop at piece)))
+    (most : n ≤ length before) (left : room ≡ length before - n) (enough : min (length (drop at piece)) (room + 1) ≤ near)
+    (fit : fits ≡ min k room) (count : len ≡ fits) (copied : new ≡ take fits (take near (drop at piece))) where
+  near_far : k ≡ min near (first line_feed (drop at piece))
+  near_far = ends ∙ first_near line_feed near (drop at piece)
+
+  far_most : first line_feed (drop at piece) ≤ length (drop at piece)
+  far_most = first_le line_feed (drop at piece)
+
+  whole : new ≡ take fits (drop at piece)
+  whole = copied ∙ take-take fits near (drop at piece) (omega (arith, near_far, fit))
+
+  pub near_long : room < k → Gathered before piece (put_mid n len before new) n at Long
+  near_long r =
+      too_long before piece new n at (first line_feed (drop at piece)) room fits len refl most left
+      (omega (arith, fit, near_far, far_most, enough, r)) count whole (omega (arith, near_far, r))
+
+  found : k ≤ room → k ≡ first line_feed (drop at piece)
+  found r = omega (arith, near_far, far_most, enough, r)
+
+  pub near_line : k ≤ room → k < length (take near (drop at piece))
+      → Gathered before piece (put_mid n len before new) n at (Line (n + k) (at + k + 1))
+  near_line r l =
+      ends_line before piece new n at k room fits len (found r) most left fit count whole r
+      (omega (arith, l, length-take near (drop at piece)))
+
+  pub near_piece : k ≤ room → length (take near (drop at piece)) ≤ k
+      → Gathered before piece (put_mid n len before new) n at (Part (n + k))
+  near_piece r l =
+      ends_piece before piece new n at k room fits len (found r) most left fit count whole r
+      (omega (arith, l, r, enough, length-take near (drop at piece)))
 
 -- ---- for whoever calls: what each answer tells, of k bytes up to the line feed
 

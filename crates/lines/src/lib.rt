@@ -83,15 +83,17 @@ fn gather(held: &mut [u8], n: usize, piece: &[u8], at: usize) -> Taken
         × (held.new ≡ held_then (length held.old) held.old n piece.now at) }
 {
     let rest = piece.get(at..).unwrap_or(&[]);
-    let k = numerals::find(rest, LINE_FEED);
     let Some(room) = held.len().checked_sub(n) else {
         return Taken::Long;
     };
+    // One byte past the room tells that the line is too long, however much of the piece is left.
+    let near = &rest[..rest.len().min(room.saturating_add(1))];
+    let k = numerals::find(near, LINE_FEED);
     let fits = k.min(room);
-    held[n..n + fits].copy_from_slice(&rest[..fits]);
+    held[n..n + fits].copy_from_slice(&near[..fits]);
     if k > room {
         Taken::Long
-    } else if k < rest.len() {
+    } else if k < near.len() {
         Taken::Line(n + k, at + k + 1)
     } else {
         Taken::Part(n + k)
