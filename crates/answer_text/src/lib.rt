@@ -1,16 +1,15 @@
 // The text that the bench program writes, put together and proved against specs/Answers; writing it is the caller's.
 #![tactic(auto)]
 
-ghost use Rattle.std.specs.Prelude.{◌≡◌, ◌+◌, ◌≤◌, ◌<◌, ◌++◌, length, take};
-ghost use Rattle.arrayvec.specs.ArrayVec.{array_vec_len};
+ghost use Rattle.std.specs.Prelude.{◌≡◌, ◌+◌, ◌≤◌, ◌<◌, [], ◌++◌, length, take};
 ghost use Rattle.io.specs.Digits.{hex_digit_ascii};
 ghost use Rattle.rules.specs.Calls.{reported};
 ghost use Rattle.answer_text.specs.Answers.{decimal, state_text, command_text, bad_line_text, hex_of};
 
-use arrayvec::ArrayVec;
 use lines::Command;
 use rules::{Answer, Done, Stop};
 use state::State;
+use std::marker::Model;
 
 // The most bytes that a text has.
 pub const ROOM: usize = 64;
@@ -18,7 +17,49 @@ pub const ROOM: usize = 64;
 // The most bytes that a text of hexadecimal digits shows.
 pub const SHOWN: usize = 32;
 
-pub type Text = ArrayVec<u8, ROOM>;
+// A text, and how long it is. No ArrayVec, which is not Copy: what bench_lines answers holds a text, and is.
+#[derive(Clone, Copy)]
+pub struct Text {
+    bytes: [u8; ROOM],
+    len: usize,
+}
+
+impl Model for Text {
+    ghost use Rattle.std.specs.Prelude.{◌≡◌, ◌≤◌, ◌++◌, length, take, drop};
+    ghost use Rattle.std.proofs.Common.{arith, take-append-drop, length-take-le};
+    ghost use Rattle.answer_text.specs.Texts.{Text as Items};
+
+    ghost Value = { Items };
+
+    ghost view = { λ t. record { items = take t.len t.bytes; spare = drop t.len t.bytes } };
+
+    ghost invariant = { λ t. (t.len ≤ 64) × (length t.bytes ≡ 64) };
+
+    ghost inverse = { λ t. record { bytes = t.items ++ t.spare; len = length t.items } };
+
+    ghost inverse_ok = { λ t h i. record {
+      bytes = take-append-drop t.len t.bytes i;
+      len = length-take-le t.len t.bytes (omega (arith, h.0, h.1)) i;
+    } };
+}
+
+impl Text {
+    pub fn new() -> Self
+        ensures { result.items ≡ [] }
+    {
+        Text {
+            bytes: [0; ROOM],
+            len: 0,
+        }
+    }
+
+    pub fn as_slice(&self) -> &[u8]
+        ensures value { result.now ≡ self.now.items }
+        ensures fits { length result.now ≤ ROOM }
+    {
+        &self.bytes[..self.len]
+    }
+}
 
 // What an answer that was cut by its budget is numbered.
 const CUT: u32 = 7;
@@ -66,17 +107,19 @@ fn tell(answer: Answer) -> Parts
 
 // The caller sees to the room.
 pub fn put_bytes(text: &mut Text, bytes: &[u8])
-    requires { array_vec_len text.old + length bytes.now ≤ ROOM }
+    requires { length text.old.items + length bytes.now ≤ ROOM }
     ensures { text.new.items ≡ text.old.items ++ bytes.now }
 {
-    text.try_extend_from_slice(bytes).unwrap();
+    let end = text.len + bytes.len();
+    text.bytes[text.len..end].copy_from_slice(bytes);
+    text.len = end;
 }
 
 // io::decimal asks for a buffer, and tells how much of it is used.
 fn put_number(text: &mut Text, x: u64)
-    requires { array_vec_len text.old + 20 ≤ ROOM }
+    requires { length text.old.items + 20 ≤ ROOM }
     ensures items { text.new.items ≡ text.old.items ++ decimal x }
-    ensures len { array_vec_len text.new ≤ array_vec_len text.old + 20 }
+    ensures len { length text.new.items ≤ length text.old.items + 20 }
 {
     let mut digits = [0u8; 20];
     let k = io::decimal(x, &mut digits);

@@ -20,7 +20,7 @@ use state::State;
 pub const MOST: usize = lines::MOST_LENGTH as usize;
 
 // The three areas, as long as they may be.
-#[derive(Drop)]
+#[derive(Clone, Copy)]
 pub struct Areas {
     pub active: [u8; MOST],
     pub dfu: [u8; MOST],

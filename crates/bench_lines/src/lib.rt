@@ -11,7 +11,7 @@ ghost use Rattle.geometry.specs.Refusals.{verdict};
 ghost use Rattle.bench_output.specs.Output.{bad, on_sizes, on_lengths, on_command, on_line, over, step};
 ghost use Rattle.bench_lines.specs.Machine.{stage_of, most_lines, Fits, Passed, Stepped, Sound, Counted, Goes};
 
-use answer_text::Text;
+pub use answer_text::Text;
 use bench_images::{Areas, MOST, Setup};
 use geometry::Geometry;
 use lines::{MOST_BYTES, Taken};
@@ -27,7 +27,7 @@ pub enum Phase {
 }
 
 // What the lines so far have made: the next line's kind, how many lines are done, and the areas.
-#[derive(Drop)]
+#[derive(Clone, Copy)]
 pub struct Bench {
     pub phase: Phase,
     pub lines: u64,
@@ -43,7 +43,7 @@ pub struct Machine {
 }
 
 // The text that is due for what was taken of a piece, and where in the piece the next line starts.
-#[derive(Drop)]
+#[derive(Clone, Copy)]
 pub struct Turn {
     pub text: Text,
     pub at: usize,
@@ -208,6 +208,7 @@ impl Machine {
 
     // After the last piece: what is held is a line, the input's end being its end.
     pub fn last(&mut self) -> Text
+        ensures line { self.new.line ≡ self.old.line }
         ensures goes { Goes self.old [] result.items self.new [] }
         ensures held { Sound self.old → Counted self.old [] → self.new.held ≡ 0 }
     {
