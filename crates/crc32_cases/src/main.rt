@@ -2,6 +2,7 @@
 // word of the table is used.
 #![tactic(auto)]
 
+use arrayvec::ArrayVec;
 use std::io;
 use std::io::Read;
 
@@ -28,9 +29,11 @@ fn sums(rt: &impl Print, bytes: &[u8]) -> io::Result<()> {
     Ok(())
 }
 
-// The first 4096 bytes are summed, or all where there are fewer.
+// So many bytes are summed, or all where there are fewer.
+const MOST: usize = 4096;
+
 fn main(rt: HostRuntime) -> io::Result<()> {
-    let mut bytes = Vec::new(rt.alloc());
-    rt.stdin().take(4096).read_to_end(&mut bytes)?;
+    let mut bytes: ArrayVec<u8, MOST> = ArrayVec::new();
+    io::copy(&mut rt.stdin().take(MOST as u64), &mut bytes)?;
     sums(&rt, &bytes)
 }

@@ -5,7 +5,7 @@
 
 use byteorder::{LittleEndian, ReadBytesExt};
 use kind::Kind;
-use std::io::{BufReader, ErrorKind, Read};
+use std::io::{ErrorKind, Read};
 use std::{fmt, io};
 
 mod kind;
@@ -76,11 +76,13 @@ const VERSION: u32 = 2;
 
 // Reads the head of the sample: how many records follow.
 fn read_count(input: &mut impl Read) -> Result<u32, SampleError> {
+    let mut head = [0; 16];
+    input.read_exact(&mut head)?;
+    let mut fields = &head[..];
     let mut tag = [0; 4];
-    input.read_exact(&mut tag)?;
-    let version = input.read_u32::<LittleEndian>()?;
-    let records = input.read_u32::<LittleEndian>()?;
-    let _spare = input.read_u32::<LittleEndian>()?;
+    fields.read_exact(&mut tag)?;
+    let version = fields.read_u32::<LittleEndian>()?;
+    let records = fields.read_u32::<LittleEndian>()?;
     if tag == *TAG && version == VERSION {
         Ok(records)
     } else {
@@ -100,7 +102,7 @@ fn replay_all(input: &mut impl Read, records: u32) -> Result<Tally, SampleError>
 }
 
 fn main(rt: HostRuntime) -> io::Result<()> {
-    let mut input = BufReader::new(rt.alloc(), rt.stdin())?;
+    let mut input = rt.stdin();
     let records = match read_count(&mut input) {
         Ok(records) => records,
         Err(error) => return error.tell(&rt, "no sample"),

@@ -9,6 +9,9 @@ use byteorder::{LittleEndian, ReadBytesExt};
 use std::io;
 use std::io::Read;
 
+// The numbers at the head of a record: eighteen of four bytes and two of eight.
+const HEAD_BYTES: usize = 88;
+
 // No part of a record is longer.
 const LONGEST: usize = 64;
 
@@ -78,18 +81,22 @@ struct Head {
 }
 
 impl Head {
+    // The head comes in one read, since nothing is held between the input and the sample.
     fn read(input: &mut impl Read) -> io::Result<Self> {
+        let mut head = [0; HEAD_BYTES];
+        input.read_exact(&mut head)?;
+        let mut fields = &head[..];
         // the record's length, which those of its parts give as well
-        let _length = input.read_u32::<LittleEndian>()?;
+        let _length = fields.read_u32::<LittleEndian>()?;
         Ok(Head {
-            kind: input.read_u32::<LittleEndian>()?,
-            sizes: Sizes::read(input)?,
-            lengths: Lengths::read(input)?,
-            budget: input.read_u32::<LittleEndian>()?,
-            offset: input.read_u64::<LittleEndian>()?,
-            last_before: input.read_u32::<LittleEndian>()?,
-            result: input.read_u64::<LittleEndian>()?,
-            last_after: input.read_u32::<LittleEndian>()?,
+            kind: fields.read_u32::<LittleEndian>()?,
+            sizes: Sizes::read(&mut fields)?,
+            lengths: Lengths::read(&mut fields)?,
+            budget: fields.read_u32::<LittleEndian>()?,
+            offset: fields.read_u64::<LittleEndian>()?,
+            last_before: fields.read_u32::<LittleEndian>()?,
+            result: fields.read_u64::<LittleEndian>()?,
+            last_after: fields.read_u32::<LittleEndian>()?,
         })
     }
 }

@@ -5,15 +5,25 @@
 ghost use Rattle.std.specs.Prelude.{◌<◌};
 
 use sha512::Stream;
-use std::io;
+use std::{fmt, io};
+
+// Of two digits a byte, so that a digest's line is written whole.
+#[derive(Clone, Copy)]
+struct Digest([u8; 64]);
+
+impl fmt::Display for Digest {
+    fn fmt<W: fmt::Write>(&self, f: &mut fmt::Formatter<W>) -> fmt::Result {
+        for byte in self.0 {
+            write!(f, "{byte:02x}")?;
+        }
+        Ok(())
+    }
+}
 
 fn show_digest(rt: &impl Print, s: Stream) -> io::Result<()> {
     let mut digest = [0u8; 64];
     sha512::finish(s, &mut digest).unwrap();
-    for byte in digest {
-        print!(rt; "{byte:02x}")?;
-    }
-    println!(rt;)
+    println!(rt; "{}", Digest(digest))
 }
 
 // A stream to which the message was added in pieces of `by` bytes, the last of those that are left.

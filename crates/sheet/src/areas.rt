@@ -1,9 +1,15 @@
 // The areas of a device, before a case and after it.
+use arrayvec::ArrayVec;
 use state::State;
-use std::alloc::{AllocError, Global};
-use std::fmt;
+use std::io::Write;
+use std::{fmt, io};
 
 const PAGE_SIZE: usize = 4;
+
+// No area of the sheet is longer.
+const LONGEST: usize = 28;
+
+pub type Area = ArrayVec<u8, LONGEST>;
 
 // The two images, a byte for each page: the one of which it is made.
 #[derive(Clone, Copy)]
@@ -14,35 +20,39 @@ pub struct Pages<'a> {
 
 #[derive(PartialEq, Eq, Drop)]
 pub struct Areas {
-    pub active: Vec<u8>,
-    pub dfu: Vec<u8>,
-    pub state: Vec<u8>,
+    pub active: Area,
+    pub dfu: Area,
+    pub state: Area,
 }
 
-fn image(alloc: Global, pages: &[u8]) -> Result<Vec<u8>, AllocError> {
-    pages
-        .iter()
-        .flat_map(|page| [*page; PAGE_SIZE])
-        .collect(alloc)
+fn image(pages: &[u8]) -> io::Result<Area> {
+    let mut image = Area::new();
+    for page in pages {
+        image.write_all(&[*page; PAGE_SIZE])?;
+    }
+    Ok(image)
 }
 
 impl Areas {
-    pub fn new(alloc: Global, pages: Pages<'_>, state: &[u8]) -> Result<Self, AllocError> {
+    pub fn new(pages: Pages<'_>, state: &[u8]) -> io::Result<Self> {
+        let mut marks = Area::new();
+        marks.write_all(state)?;
         Ok(Areas {
-            active: image(alloc, pages.active)?,
-            dfu: image(alloc, pages.dfu)?,
-            state: state.to_vec(alloc)?,
+            active: image(pages.active)?,
+            dfu: image(pages.dfu)?,
+            state: marks,
         })
     }
 }
 
 // A state area of so many words of a byte, in which a swap is to begin.
-pub fn swap_state(alloc: Global, words: u32) -> Result<Vec<u8>, AllocError> {
-    let mut state = vec![in alloc; State::ERASE_VALUE; words as usize]?;
+pub fn swap_state(words: u32) -> Area {
+    let mut state = Area::from([State::ERASE_VALUE; LONGEST]);
+    state.truncate(words as usize);
     if let Some(first) = state.first_mut() {
         *first = State::SWAP_MAGIC;
     }
-    Ok(state)
+    state
 }
 
 // Bytes as they are printed.

@@ -7,7 +7,6 @@ use firmware_state::BlockingFirmwareState;
 use geometry::{Geometry, Refusal, StateSizes};
 use rules::{Answer, Done, Stop};
 use state::State;
-use std::alloc::Global;
 use std::io;
 
 // Erase 4, 4 and all of the state area; write 2, 2, 1; b = 2.
@@ -54,15 +53,15 @@ fn take(step: Step, geometry: Geometry, areas: &mut Areas) {
     };
 }
 
-fn run(rt: &impl Print, alloc: Global, case: &Case<'_>, tally: &mut Tally) -> io::Result<()> {
+fn run(rt: &impl Print, case: &Case<'_>, tally: &mut Tally) -> io::Result<()> {
     let geometry = sizes(case.words);
-    let start = areas::swap_state(alloc, case.words)?;
-    let mut areas = Areas::new(alloc, case.start, &start)?;
+    let start = areas::swap_state(case.words);
+    let mut areas = Areas::new(case.start, &start)?;
     for step in case.before {
         take(*step, geometry, &mut areas);
     }
     let answer = boot(geometry, &mut areas, case.budget);
-    let end = Areas::new(alloc, case.end, case.state)?;
+    let end = Areas::new(case.end, case.state)?;
     println!(rt; "{}\n  {}", case.label, Told(answer))?;
     print!(rt; "{areas}")?;
     let right = show::held(&answer, &case.answer, Difference::Answer);
@@ -83,7 +82,7 @@ fn wide_magic(rt: &impl Print, tally: &mut Tally) -> io::Result<()> {
 }
 
 // One erased byte keeps a mark open: the mark 00 FF 00 00 of step 0 is not done, so a boot begins with step 0.
-fn wide_mark(rt: &impl Print, alloc: Global, tally: &mut Tally) -> io::Result<()> {
+fn wide_mark(rt: &impl Print, tally: &mut Tally) -> io::Result<()> {
     let start = Pages {
         active: &[1],
         dfu: &[4, 5],
@@ -95,9 +94,9 @@ fn wide_mark(rt: &impl Print, alloc: Global, tally: &mut Tally) -> io::Result<()
     let mut state = [State::ERASE_VALUE; 28];
     state[..4].fill(State::SWAP_MAGIC);
     state[8..12].copy_from_slice(&[0, State::ERASE_VALUE, 0, 0]);
-    let mut areas = Areas::new(alloc, start, &state)?;
+    let mut areas = Areas::new(start, &state)?;
     let answer = boot(wide_sizes(), &mut areas, 1);
-    let end = Areas::new(alloc, end, &state)?;
+    let end = Areas::new(end, &state)?;
     println!(rt;
         "4-byte words, mark 00 FF 00 00, boot 1\n  {}",
         Told(answer)
@@ -125,12 +124,12 @@ fn long_active(
     tally.count(rt, show::held(&verdict, &said, Difference::Answer))
 }
 
-pub fn lines(rt: &impl Print, alloc: Global, tally: &mut Tally) -> io::Result<()> {
+pub fn lines(rt: &impl Print, tally: &mut Tally) -> io::Result<()> {
     for case in &BOOTS {
-        run(rt, alloc, case, tally)?;
+        run(rt, case, tally)?;
     }
     wide_magic(rt, tally)?;
-    wide_mark(rt, alloc, tally)?;
+    wide_mark(rt, tally)?;
     // the longest is refused for its DFU, and one byte more for its length
     let longest = 1 << 24;
     long_active(

@@ -13,7 +13,7 @@ mod updater;
 
 fn main(rt: HostRuntime) -> io::Result<()> {
     let mut tally = Tally { right: 0 };
-    boots::lines(&rt, rt.alloc(), &mut tally)?;
+    boots::lines(&rt, &mut tally)?;
     updater::lines(&rt, &mut tally)?;
     println!(rt; "{} of 25 cases as the sheet says", tally.right)
 }
