@@ -28,10 +28,11 @@ pub fn judge(log: &[u32], g: Geometry, la: usize, ld: usize, ls: usize) -> LogAn
     if MOST_NUMBERS < log.len() {
         return LogAnswer::Refused(Refusal::Range);
     }
-    let (entries, rest) = log.as_chunks::<4>();
-    if !rest.is_empty() {
+    if log.len() % 4 != 0 {
         return LogAnswer::No;
     }
+    // Nothing is left behind the entries.
+    let (entries, _) = log.as_chunks::<4>();
     let page = g.page_size();
     if log_steps::read_swap(entries, g, page, la / page) {
         return LogAnswer::Yes;
