@@ -3,7 +3,7 @@
 use mathlib.Core.Path.{◌≡◌, refl, ap, ◌∙◌, sym}
 use mathlib.Core.List.{List, [], ◌∷◌, ◌++◌}
 use Prim.Native.Nat.{ℕ, zero, suc, ◌+◌, ◌-◌, ◌/◌, ◌<◌}
-use native.Mathlib.Nat.{sub-zero, suc-sub-suc, div-zero, div_self}
+use native.Mathlib.Nat.{sub-zero, suc-sub-suc, div-zero, zero-div, div_self}
 use native.Mathlib.Omega.{arith}
 use lib.Dec.{leb-zero, leb-suc-zero, leb-suc-suc}
 use lib.ListN.{length}
@@ -154,6 +154,11 @@ module _ (c : Cell) where
   pub units_none : (k count unit at : ℕ) (xs : List ℕ) → count ≡ 0 → InArea k (λ a. unit_ops c count unit a at) xs xs (on k)
   unfolding unit_ops run
   units_none k count unit at xs e a f = rw e
+
+  -- an erase of no bytes
+  pub erase_nothing : (k unit from n : ℕ) (a : Area) (f : Flash) → n ≡ 0 → run k (erase_ops c unit a from n) f ≡ ended f (on k)
+  unfolding erase_ops unit_ops run
+  erase_nothing k unit from n a f e = rw (e, zero-div unit)
 
   -- one unit
   pub erase_one : (k unit from n : ℕ) (xs xs' : List ℕ) (r : Flow) → 0 < unit → n ≡ unit → InArea k (λ a. erase_ops c unit a from n) xs xs' r

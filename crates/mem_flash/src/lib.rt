@@ -49,8 +49,8 @@ fn merged(old: u8, new: u8, mark: u8) -> u8
     (old & (new | mark)) | (new & mark)
 }
 
-// Sets each byte of a part to `value`. No `fill`: it stores the last byte by itself, behind the others, and where a small unit is written
-// as soon as it is erased the read of it waits for both.
+// Sets each byte of a part to `value`. No `fill`: it stores the last byte by itself, behind the others, and where units are small a
+// tenth more instructions go there.
 fn set_all(part: &mut [u8], value: u8)
     ensures { part.new ≡ replicate (length part.old) value }
 {
@@ -86,7 +86,11 @@ pub fn erase(
 ) -> Result<Budget, PowerCut>
     ensures { InArea left.0 (λ a. erase_ops cell unit a from.0 (to.0 - from.0)) area.old area.new result }
 {
-    let count = to.0.saturating_sub(from.0).checked_div(unit).unwrap_or(0);
+    // No saturating difference: of this one the compiler sees that one unit is one, and doesn't divide for it.
+    let Some(len) = to.0.checked_sub(from.0) else {
+        return Ok(left);
+    };
+    let count = len.checked_div(unit).unwrap_or(0);
     let mut still = left;
     for i in 0..count {
         still = erase_unit(area, Offset(from.0 + i * unit), unit, cell, still)?;
