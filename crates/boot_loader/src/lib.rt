@@ -8,8 +8,8 @@ ghost use Rattle.rules.specs.Calls.{reported, report, Did};
 ghost use Rattle.rules.specs.Boot.{prepare_boot, get_state};
 
 use geometry::Geometry;
-use mem_flash::Budget;
-use rules::{Answer, Done};
+use mem_flash::{Budget, PowerCut};
+use rules::{Answer, Done, Stop};
 
 // The boot loader is its geometry: the Rust's holds the three flashes too, which are lent here.
 #[derive(Clone, Copy, Debug, PartialEq, Eq)]
@@ -39,8 +39,13 @@ impl BootLoader {
         let g = self.geometry;
         verdicts::boot_verdict(g, active.len(), dfu.len(), state.len())?;
         let found = state_area::read(state, g.state);
-        let ended = boot_choice::perform(found, g, active, dfu, state, Budget(budget));
-        rules::answer(Some(found), budget, ended)
+        match boot_choice::perform(found, g, active, dfu, state, Budget(budget)) {
+            Ok(left) => Ok(Done {
+                state: Some(found),
+                count: budget - left.0,
+            }),
+            Err(PowerCut) => Err(Stop::Cut(budget)),
+        }
     }
 
     // The state that the state area holds, with the sizes of the state area alone.

@@ -13,7 +13,7 @@ ghost use Rattle.state_area.specs.Area.{InState};
 
 use geometry::{Refusal, StateSizes};
 use mem_flash::{Budget, PowerCut};
-use rules::Answer;
+use rules::{Answer, Done, Stop};
 use state::State;
 
 pub fn mark(
@@ -27,8 +27,13 @@ pub fn mark(
         → Did c budget (flash a d state.old) (flash a d state.new) result }
 {
     judged?;
-    let ended = set_magic(z, state, s.magic(), Budget(budget));
-    rules::answer(None, budget, ended)
+    match set_magic(z, state, s.magic(), Budget(budget)) {
+        Ok(left) => Ok(Done {
+            state: None,
+            count: budget - left.0,
+        }),
+        Err(PowerCut) => Err(Stop::Cut(budget)),
+    }
 }
 
 // The magic and an erased area, by way of an invalid progress: a cut on the way leaves no progress that counts.
