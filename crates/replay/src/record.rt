@@ -5,12 +5,12 @@ ghost use Rattle.arrayvec.specs.ArrayVec.{array_vec_len};
 use crate::SampleError;
 use crate::kind::Kind;
 use arrayvec::ArrayVec;
-use byteorder::{LittleEndian, ReadBytesExt};
+use byteorder::{ByteOrder, LittleEndian};
 use std::io;
 use std::io::Read;
 
-// The numbers at the head of a record: eighteen of four bytes and two of eight.
-const HEAD_BYTES: usize = 88;
+// The numbers at the head of a record, of four bytes each; the halves of one of eight bytes count apart.
+const HEAD_NUMBERS: usize = 22;
 
 // No part of a record is longer.
 const LONGEST: usize = 64;
@@ -30,21 +30,6 @@ struct Sizes {
     ev: u32,
 }
 
-impl Sizes {
-    fn read(input: &mut impl Read) -> io::Result<Self> {
-        Ok(Sizes {
-            ea: input.read_u32::<LittleEndian>()?,
-            wa: input.read_u32::<LittleEndian>()?,
-            ed: input.read_u32::<LittleEndian>()?,
-            wd: input.read_u32::<LittleEndian>()?,
-            es: input.read_u32::<LittleEndian>()?,
-            ws: input.read_u32::<LittleEndian>()?,
-            b: input.read_u32::<LittleEndian>()?,
-            ev: input.read_u32::<LittleEndian>()?,
-        })
-    }
-}
-
 // How long each part is that a record lends.
 #[derive(Clone, Copy)]
 struct Lengths {
@@ -53,18 +38,6 @@ struct Lengths {
     state: u32,
     data: u32,
     out: u32,
-}
-
-impl Lengths {
-    fn read(input: &mut impl Read) -> io::Result<Self> {
-        Ok(Lengths {
-            active: input.read_u32::<LittleEndian>()?,
-            dfu: input.read_u32::<LittleEndian>()?,
-            state: input.read_u32::<LittleEndian>()?,
-            data: input.read_u32::<LittleEndian>()?,
-            out: input.read_u32::<LittleEndian>()?,
-        })
-    }
 }
 
 // The numbers at the head of a record, as the sample has them: a kind that is unknown is told only where the record is replayed.
@@ -80,23 +53,67 @@ struct Head {
     last_after: u32,
 }
 
+// A number of eight bytes, by its halves.
+fn long(low: u32, high: u32) -> u64 {
+    u64::from(high) << 32 | u64::from(low)
+}
+
 impl Head {
     // The head comes in one read, since nothing is held between the input and the sample.
     fn read(input: &mut impl Read) -> io::Result<Self> {
-        let mut head = [0; HEAD_BYTES];
+        let mut head = [0; 4 * HEAD_NUMBERS];
         input.read_exact(&mut head)?;
-        let mut fields = &head[..];
-        // the record's length, which those of its parts give as well
-        let _length = fields.read_u32::<LittleEndian>()?;
+        let mut numbers = [0; HEAD_NUMBERS];
+        LittleEndian::read_u32_into(&head, &mut numbers);
+        // the record's length comes first, which those of its parts give as well
+        let [
+            _,
+            kind,
+            ea,
+            wa,
+            ed,
+            wd,
+            es,
+            ws,
+            b,
+            ev,
+            active,
+            dfu,
+            state,
+            data,
+            out,
+            budget,
+            offset_low,
+            offset_high,
+            last_before,
+            result_low,
+            result_high,
+            last_after,
+        ] = numbers;
         Ok(Head {
-            kind: fields.read_u32::<LittleEndian>()?,
-            sizes: Sizes::read(&mut fields)?,
-            lengths: Lengths::read(&mut fields)?,
-            budget: fields.read_u32::<LittleEndian>()?,
-            offset: fields.read_u64::<LittleEndian>()?,
-            last_before: fields.read_u32::<LittleEndian>()?,
-            result: fields.read_u64::<LittleEndian>()?,
-            last_after: fields.read_u32::<LittleEndian>()?,
+            kind,
+            sizes: Sizes {
+                ea,
+                wa,
+                ed,
+                wd,
+                es,
+                ws,
+                b,
+                ev,
+            },
+            lengths: Lengths {
+                active,
+                dfu,
+                state,
+                data,
+                out,
+            },
+            budget,
+            offset: long(offset_low, offset_high),
+            last_before,
+            result: long(result_low, result_high),
+            last_after,
         })
     }
 }
@@ -115,8 +132,10 @@ fn read_part(input: &mut impl Read, length: u32) -> Result<Part, SampleError>
 
 // Whether a part is what comes next in the sample. Where the sample ends first the part differs, and no record follows.
 fn comes_next(input: &mut impl Read, part: &Part) -> Result<bool, SampleError> {
-    match read_part(input, part.len() as u32) {
-        Ok(next) => Ok(next == *part),
+    let mut next = [0; LONGEST];
+    let next = &mut next[..part.len()];
+    match input.read_exact(next).map_err(SampleError::from) {
+        Ok(()) => Ok(*next == **part),
         Err(SampleError::Broken) => Ok(false),
         Err(error) => Err(error),
     }
