@@ -10,11 +10,11 @@ use Rattle.bench_areas.specs.declared.Tail.{Tail}
 use Rattle.bench_areas.specs.declared.Tail.TheVariants as tails
 use Rattle.bench_areas.specs.Tail.{Room, tail_text}
 
--- what `bench_lines::next` ensures, of the piece p
+-- what `Machine::next` ensures, of the piece p
 abbrev pub Next : List ℕ → Machine → ℕ → List ℕ → Machine → ℕ → Type 0
 Next p m at text m' at' = (rest : List ℕ) → Goes m (drop at p ++ rest) text m' (drop at' p ++ rest)
 
--- `bench_lines::last`
+-- `Machine::last`
 abbrev pub Last : Machine → List ℕ → Machine → Type 0
 Last m text m' = Goes m [] text m' [] × (Sound m → Counted m [] → m'.held ≡ 0)
 
