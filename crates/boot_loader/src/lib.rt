@@ -39,6 +39,7 @@ impl BootLoader {
         let g = self.geometry;
         verdicts::boot_verdict(g, active.len(), dfu.len(), state.len())?;
         let found = state_area::read(state, g.state);
+        // An arm for each end and no `rules::answer`, so that each can be asked about: the edits cut_count and invented_count do.
         match boot_choice::perform(found, g, active, dfu, state, Budget(budget)) {
             Ok(left) => Ok(Done {
                 state: Some(found),

@@ -1,4 +1,4 @@
--- Laws of a mark: the setting of a magic, and the operations of a call that marks. Assumes nothing.
+-- Laws of a mark: the setting of a magic, and what a call that marks leaves where it is cut and where it is done. Assumes nothing.
 use mathlib.Core.Path.{◌≡◌, ◌∙◌}
 use mathlib.Core.Bool.{true, false}
 use mathlib.Core.List.{List, [], ◌∷◌}

@@ -27,6 +27,7 @@ pub fn mark(
         → Did c budget (flash a d state.old) (flash a d state.new) result }
 {
     judged?;
+    // An arm for each end and no `rules::answer`, so that each can be asked about: the edits cut_is_done and done_is_cut do.
     match set_magic(z, state, s.magic(), Budget(budget)) {
         Ok(left) => Ok(Done {
             state: None,
