@@ -1,4 +1,4 @@
--- Laws of a boot: what a verdict that admits it says, and the call's answer at each way out. `prepare_boot` cites them. Assumes nothing.
+-- Laws of a boot: what a verdict that admits it says, and the call's answer at each way out. `prepare_boot` cites all but `booted`. Assumes nothing.
 use mathlib.Core.Path.{◌≡◌, ap, sym}
 use Rattle.std.specs.Prelude.{Ok, Err, Some, IsErrAnd}
 use Prim.Native.Nat.{ℕ, ◌-◌}
@@ -14,7 +14,7 @@ use Rattle.mem_flash.specs.declared.Budget.{Budget}
 use Rattle.mem_flash.specs.Run.{Flow, cut, Ran}
 use Rattle.rules.specs.declared.Stop.TheVariants.{Refused, Cut}
 use Rattle.rules.specs.StateArea.{read_state}
-use Rattle.rules.specs.Calls.{Answer, Did}
+use Rattle.rules.specs.Calls.{Answer, Call, Did}
 use Rattle.rules.specs.Boot.{boot_ops_in, boot_ops, prepare_boot}
 use Rattle.rules.proofs.Did.{verdict_admitted, did_stopped, did_cut, did_done}
 
@@ -36,10 +36,17 @@ module _ (g : Geometry) (f : Flash) {v : Verdict} (judged : verdict v ≡ boot_r
     pub boot_admits : Admitted g (length f.active) (length f.dfu) (length f.state)
     boot_admits = admitted g _ _ _ not_refused
 
+    -- what is promised of the answer of any call with these operations is so promised of this call
+    pub booted : {s : State} {k : ℕ} {f₁ : Flash} {r : Flow} {a : Answer} → s ≡ read_state g.state f.state → Ran k (boot_ops_in s g f) f f₁ r
+        → ((c : Call) (x y : Flash) → c.refusal ≡ 0 → c.state ≡ Some s → Ran k c.ops x y r → Did c k x y a)
+        → Did (prepare_boot g f) k f f₁ a
+    unfolding prepare_boot boot_ops
+    booted found w h = h (prepare_boot g f) _ _ not_refused (ap Some (sym found)) (rw (← found) w)
+
     module _ {s : State} (found : s ≡ read_state g.state f.state) where
-      pub booted : {k : ℕ} {f₁ : Flash} {r : Flow} → Ran k (boot_ops_in s g f) f f₁ r → Booted g k f s f₁ r
+      pub boot_ran : {k : ℕ} {f₁ : Flash} {r : Flow} → Ran k (boot_ops_in s g f) f f₁ r → Booted g k f s f₁ r
       unfolding boot_ops
-      booted w = record { admitted = not_refused; found = found; ran = rw (← found) w }
+      boot_ran w = record { admitted = not_refused; found = found; ran = rw (← found) w }
 
 module _ {g : Geometry} {k : ℕ} {f : Flash} {s : State} {f₁ : Flash} {r : Flow} (w : Booted g k f s f₁ r) where
   pub boot_cut : r ≡ cut → Did (prepare_boot g f) k f f₁ (Err (Cut k))

@@ -1,4 +1,4 @@
--- Laws of a mark: the setting of a magic, and what a call that marks leaves where it is cut and where it is done. Assumes nothing.
+-- Laws of a mark: the setting of a magic, the operations of a call that marks, and what it leaves where it is cut and where it is done. Assumes nothing.
 use mathlib.Core.Path.{◌≡◌, ◌∙◌}
 use mathlib.Core.Bool.{true, false}
 use mathlib.Core.List.{List, [], ◌∷◌}
@@ -43,14 +43,16 @@ module _ (z : StateSizes) (m : ℕ) (st : List ℕ) where
       unfolding set_magic_ops pick
       magic_on l st₂ q o h w a d = rw (n, v) (then_on k (invalidate_op z ∷ []) _ _ _ r (i a d) l o ∙ (rw h at (w a d)))
 
--- what a call that marks leaves, from what the setting of the magic did
+-- the operations of a call that marks, from what the setting of the magic did
+pub ran_ops : (c : Call) {k : ℕ} {st st₁ : List ℕ} (a d : List ℕ) {ops : List Op} {r : Flow} → c.ops ≡ ops → InState k ops st st₁ r
+    → Ran k c.ops (flash a d st) (flash a d st₁) r
+ran_ops c a d x w = rw x (ran _ _ _ _ _ (w a d))
+
+-- what such a call leaves
 module _ (c : Call) (k : ℕ) (st st₁ a d : List ℕ) (ops : List Op) (r : Flow) (v : Verdict) (e : verdict v ≡ c.refusal) (o : v ≡ Ok tt)
     (s : c.state ≡ None) (x : c.ops ≡ ops) (w : InState k ops st st₁ r) where
-  ran_ops : Ran k c.ops (flash a d st) (flash a d st₁) r
-  ran_ops = rw x (ran _ _ _ _ _ (w a d))
-
   pub mark_cut : r ≡ cut → Did c k (flash a d st) (flash a d st₁) (Err (Cut k))
-  mark_cut p = did_cut c k (flash a d st) (verdict_admitted v _ e o) (flash a d st₁) r ran_ops p
+  mark_cut p = did_cut c k (flash a d st) (verdict_admitted v _ e o) (flash a d st₁) r (ran_ops c a d x w) p
 
   pub mark_done : (l : Budget) → r ≡ Ok l → Did c k (flash a d st) (flash a d st₁) (Ok (record { state = None; count = k - l.0 }))
-  mark_done l p = did_done c k (flash a d st) (verdict_admitted v _ e o) (flash a d st₁) r ran_ops l p None s
+  mark_done l p = did_done c k (flash a d st) (verdict_admitted v _ e o) (flash a d st₁) r (ran_ops c a d x w) l p None s
