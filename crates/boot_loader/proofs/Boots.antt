@@ -36,7 +36,8 @@ module _ (g : Geometry) (f : Flash) {v : Verdict} (judged : verdict v ≡ boot_r
     pub boot_admits : Admitted g (length f.active) (length f.dfu) (length f.state)
     boot_admits = admitted g _ _ _ not_refused
 
-    -- what is promised of the answer of any call with these operations is so promised of this call
+    -- what is promised of the answer of any call with these operations is so promised of this call: the form in which `rules::answer` promises.
+    -- `prepare_boot` has an arm for each end and doesn't want it; it stands for other crates, which could cite it
     pub booted : {s : State} {k : ℕ} {f₁ : Flash} {r : Flow} {a : Answer} → s ≡ read_state g.state f.state → Ran k (boot_ops_in s g f) f f₁ r
         → ((c : Call) (x y : Flash) → c.refusal ≡ 0 → c.state ≡ Some s → Ran k c.ops x y r → Did c k x y a)
         → Did (prepare_boot g f) k f f₁ a
